@@ -1,0 +1,185 @@
+-- Which words are keys: a word is the key of its digits where no place that holds a digit stands after one that holds none.
+-- Assumes nothing.
+use mathlib.Core.Path.{_≡_, refl, ap, sym, _∙_}
+use mathlib.Core.Bool.{Bool, true, false, cond, _&&_, not}
+use mathlib.Core.List.{List, [], _∷_}
+use Prim.Native.Nat.{ℕ, zero, suc, _+_, _-_, _*_, _/_, _%_, _^_, _≤_, _<_}
+use native.Mathlib.Nat.{div-add-mod'}
+use native.Mathlib.Numerals.{add-one, sub-one}
+use native.Mathlib.Omega.{arith}
+use borrow.Author.Tests.{lt-ltb, le-ltb, le-leb, lt-leb, eq-eqb, ne-eqb, eqb-true, leb-true}
+use lib.Dec.{eqb, leb, ltb}
+use lib.ListN.{length, take}
+use Rattle.dial_code.specs.Digits.{every, isDigit, isNumber, startsWithZero, value}
+use Rattle.dial_code.specs.Key.{key, keyFrom, keysEnd, firstPlace, placesOf, digitsOfKey}
+use Rattle.dial_code.specs.CountryCode.{countryDigits, country, countryOfKey}
+use Rattle.dial_code.specs.Code.{isCode, isCodeKey}
+use Rattle.dial_code.specs.declared.Country.{Country}
+use Rattle.dial_code.specs.declared.Country.the-variants.{Code, None}
+use Rattle.dial_code.proofs.Tests.{both, same-eqb, and-left-true, and-left-false, and-right-true, and-right-false, Order, below, equal, above, order}
+use Rattle.dial_code.proofs.DigitLaws.{no-digits, zero-first, number-cons, number-facts}
+use Rattle.dial_code.proofs.KeyLaws.{key-shift, digits-back}
+use Rattle.dial_code.proofs.CountryLaws.{places-none, places-some}
+
+-- a word is the key of the digits of its first k places
+abbrev pub keyed : ℕ → ℕ → Bool
+keyed k w = eqb (key (placesOf k w)) w
+
+key-empty : key [] ≡ 0
+unfolding key
+key-empty = refl
+
+key-cons : (d : ℕ) (ds : List ℕ) → key (d ∷ ds) ≡ (d + 1) * firstPlace + keyFrom 2 ds
+unfolding key
+key-cons d ds = refl
+
+key-tail : (ds : List ℕ) → length ds ≤ 14 → keyFrom 2 ds * 11 ≡ key ds
+unfolding key
+key-tail ds h = key-shift 1 ds (omega arith)
+
+pub length-places : (k w : ℕ) → length (placesOf k w) ≤ k
+unfolding placesOf
+length-places zero w = omega arith
+length-places (suc k) w =
+    elim (order 0 (w / firstPlace)) [
+      | below h ↦ rw (places-some k w h) (omega (arith, length-places k (w % firstPlace * 11)))
+      | equal h ↦ rw (places-none k w (sym h)) (omega arith)
+      | above h ↦ absurd (omega arith)
+    ]
+
+pub digits-places : (k w : ℕ) → w < keysEnd → every isDigit (placesOf k w) ≡ true
+unfolding placesOf
+digits-places zero w h = refl
+digits-places (suc k) w h =
+    elim (order 0 (w / firstPlace)) [
+      | below l ↦ rw (places-some k w l, le-leb (w / firstPlace - 1) 9 (omega arith)) (digits-places k (w % firstPlace * 11) (omega arith))
+      | equal l ↦ rw (places-none k w (sym l))
+      | above l ↦ absurd (omega arith)
+    ]
+
+pub nothing-left : (k w : ℕ) → w ≡ 0 → keyed k w ≡ true
+unfolding placesOf
+nothing-left zero w e = eq-eqb (key []) w (key-empty ∙ sym e)
+nothing-left (suc k) w e = eq-eqb _ _ (ap key (places-none k w (omega arith)) ∙ key-empty ∙ sym e)
+
+pub a-gap : (k w : ℕ) → 0 < k → (w ≡ 0 → ⊥) → w < firstPlace → keyed k w ≡ false
+a-gap zero w l n h = absurd (omega arith)
+a-gap (suc k) w l n h = ne-eqb _ _ (λ e. n (sym e ∙ ap key (places-none k w (omega arith)) ∙ key-empty))
+
+pub all-read : (k w : ℕ) → k ≡ 0 → keyed k w ≡ eqb w 0
+unfolding placesOf
+all-read zero w e = same-eqb (key []) w w 0 (λ p. sym p ∙ key-empty) (λ p. key-empty ∙ sym p)
+all-read (suc k) w e = absurd (omega arith)
+
+pub one-more : (k w : ℕ) → 0 < k → k ≤ 15 → firstPlace ≤ w → keyed k w ≡ keyed (k - 1) (w % firstPlace * 11)
+one-more zero w l m h = absurd (omega arith)
+one-more (suc k) w l m h =
+    let p : placesOf (suc k) w ≡ (w / firstPlace - 1) ∷ rest = places-some k w (omega arith) in
+    let q : key (placesOf (suc k) w) ≡ (w / firstPlace - 1 + 1) * firstPlace + keyFrom 2 rest = ap key p ∙ key-cons (w / firstPlace - 1) rest in
+    let s : keyFrom 2 rest * 11 ≡ key rest = key-tail rest (omega (arith, length-places k (w % firstPlace * 11))) in
+    let f : suc k - 1 ≡ k = omega arith in
+    let v : (w / firstPlace - 1 + 1) * firstPlace + w % firstPlace ≡ w = omega arith in
+    rw (f, q)
+    (same-eqb ((w / firstPlace - 1 + 1) * firstPlace + keyFrom 2 rest) w (key rest) (w % firstPlace * 11)
+    (λ (e : (w / firstPlace - 1 + 1) * firstPlace + keyFrom 2 rest ≡ w). omega (arith, s, v))
+    (λ (e : key rest ≡ w % firstPlace * 11). omega (arith, s, v)))
+  where
+    rest : List ℕ
+    rest = placesOf k (w % firstPlace * 11)
+
+-- a string that has a country is as long as its country code
+has-country : (ds : List ℕ) (n : ℕ) → country ds ≡ Code n → leb (countryDigits ds) (length ds) ≡ true
+unfolding country
+has-country ds n e = go (leb (countryDigits ds) (length ds)) refl e
+  where
+    go : (t : Bool) → leb (countryDigits ds) (length ds) ≡ t → cond t (Code (value (take (countryDigits ds) ds))) None ≡ Code n → leb (countryDigits ds) (length ds) ≡ true
+    go true q r = q
+    go false q r = let z : _≡_ {A = ℕ} 0 1 = cc in absurd (omega arith)
+
+no-country : (ds : List ℕ) → country ds ≡ None → leb (countryDigits ds) (length ds) ≡ false
+unfolding country
+no-country ds e = go (leb (countryDigits ds) (length ds)) refl e
+  where
+    go : (t : Bool) → leb (countryDigits ds) (length ds) ≡ t → cond t (Code (value (take (countryDigits ds) ds))) None ≡ None → leb (countryDigits ds) (length ds) ≡ false
+    go true q r = let z : _≡_ {A = ℕ} 0 1 = cc in absurd (omega arith)
+    go false q r = q
+
+-- the rules' tests, taken apart one at a time
+code-test : (w : ℕ) → isCodeKey w ≡ (eqb (key (digitsOfKey w)) w && isCode (digitsOfKey w))
+unfolding isCodeKey
+code-test w = refl
+
+country-test : (ds : List ℕ) → isCode ds ≡ (isNumber ds && leb (countryDigits ds) (length ds))
+unfolding isCode
+country-test ds = refl
+
+in-keys : (w : ℕ) → w < keysEnd → digitsOfKey w ≡ placesOf 15 w
+unfolding digitsOfKey
+in-keys w h = rw (lt-ltb w keysEnd h)
+
+beyond : (w : ℕ) → keysEnd ≤ w → digitsOfKey w ≡ []
+unfolding digitsOfKey
+beyond w h = rw (le-ltb w keysEnd h)
+
+refuted : (w : ℕ) → isNumber (digitsOfKey w) ≡ false → isCodeKey w ≡ false
+refuted w e =
+    let ds = digitsOfKey w in
+    code-test w
+    ∙ and-right-false (eqb (key ds) w) (country-test ds ∙ and-left-false (leb (countryDigits ds) (length ds)) e)
+
+country-digits : (w : ℕ) → countryOfKey w ≡ country (digitsOfKey w)
+unfolding countryOfKey
+country-digits w = refl
+
+-- Whether a word is the key of an allowed code, by the tests of the code.
+pub beyond-keys : (w : ℕ) → keysEnd ≤ w → isCodeKey w ≡ false
+beyond-keys w h = refuted w (ap isNumber (beyond w h) ∙ no-digits)
+
+pub no-first-digit : (w : ℕ) → w < 2 * firstPlace → isCodeKey w ≡ false
+no-first-digit w h =
+    refuted w
+    (elim (order 0 (w / firstPlace)) [
+      | below l ↦
+          let o : w / firstPlace - 1 ≡ 0 = omega arith in
+          ap isNumber
+          (in-keys w (omega arith) ∙ places-some 14 w l ∙ ap (λ (d : ℕ). d ∷ placesOf 14 (w % firstPlace * 11)) o)
+          ∙ zero-first (placesOf 14 (w % firstPlace * 11))
+      | equal l ↦ ap isNumber (in-keys w (omega arith) ∙ places-none 14 w (sym l)) ∙ no-digits
+      | above l ↦ absurd (omega arith)
+    ])
+
+pub with-country : (w n : ℕ) → w < keysEnd → 2 * firstPlace ≤ w → countryOfKey w ≡ Code n → isCodeKey w ≡ eqb (key (placesOf 15 w)) w
+with-country w n h l e =
+    let d = digits-places 15 w h in
+    let p : placesOf 15 w ≡ (w / firstPlace - 1) ∷ placesOf 14 (w % firstPlace * 11) = places-some 14 w (omega arith) in
+    let m : isNumber (digitsOfKey w) ≡ true = ap isNumber (in-keys w h ∙ p) ∙ number-cons _ _ (omega arith) (rw p at d) (length-places 14 _) in
+    code-test w
+    ∙ and-right-true _
+    (country-test (digitsOfKey w)
+    ∙ and-left-true _ m
+    ∙ has-country (digitsOfKey w) n (sym (country-digits w) ∙ e))
+    ∙ ap (λ (ds : List ℕ). eqb (key ds) w) (in-keys w h)
+
+pub without-country : (w : ℕ) → countryOfKey w ≡ None → isCodeKey w ≡ false
+without-country w e =
+    let ds = digitsOfKey w in
+    code-test w
+    ∙ and-right-false (eqb (key ds) w)
+    (country-test ds ∙ and-right-false (isNumber ds) (no-country ds (sym (country-digits w) ∙ e)))
+
+-- an allowed code comes back from its key
+pub code-back : (ds : List ℕ) → isCode ds ≡ true → digitsOfKey (key ds) ≡ ds
+code-back ds e =
+    let n = number-facts ds (both _ _ (sym (country-test ds) ∙ e) .0) in
+    digits-back ds (n .1) (n .0)
+
+-- A word passes the test exactly where it is the key of an allowed code.
+pub code-keyed : (ds : List ℕ) → isCode ds ≡ true → isCodeKey (key ds) ≡ true
+code-keyed ds e =
+    let b : digitsOfKey (key ds) ≡ ds = code-back ds e in
+    code-test (key ds) ∙ rw (b, eq-eqb (key ds) (key ds) refl) e
+
+pub keyed-code : (w : ℕ) → isCodeKey w ≡ true → (ds : List ℕ) × (isCode ds ≡ true) × (key ds ≡ w)
+keyed-code w e =
+    let p = both _ _ (sym (code-test w) ∙ e) in
+    (digitsOfKey w, p .1, eqb-true _ _ (p .0))

@@ -1,0 +1,179 @@
+-- The country of a key from its first three places, and the two-digit country codes as bits.
+-- Assumes nothing.
+use mathlib.Core.Path.{_≡_, refl, ap, sym, _∙_}
+use mathlib.Core.Bool.{Bool, true, false, cond, _&&_, _||_, not}
+use mathlib.Core.List.{List, [], _∷_}
+use Prim.Native.Nat.{ℕ, zero, suc, _+_, _-_, _*_, _/_, _%_, _^_, _≤_, _<_}
+use native.Mathlib.Omega.{arith}
+use borrow.Author.Tests.{lt-ltb, le-ltb, le-leb, eq-eqb, ne-eqb}
+use lib.Dec.{eqb, leb, ltb}
+use lib.ListN.{length}
+use Rattle.dial_code.specs.Digits.{value}
+use Rattle.dial_code.specs.Key.{keysEnd, firstPlace, placesOf, digitsOfKey}
+use Rattle.dial_code.specs.CountryCode.{oneDigit, twoDigits, countryDigits, country, countryOfKey}
+use Rattle.dial_code.specs.declared.Country.{Country}
+use Rattle.dial_code.specs.declared.Country.the-variants.{Code, None}
+use Rattle.dial_code.proofs.Tests.{both, Order, below, equal, above, order}
+
+-- a test that holds of every number below a bound, found by computing it
+allBelow : (ℕ → Bool) → ℕ → Bool
+allBelow f zero = true
+allBelow f (suc n) = f n && allBelow f n
+
+each-below : (f : ℕ → Bool) (n : ℕ) → allBelow f n ≡ true → (k : ℕ) → k < n → f k ≡ true
+unfolding allBelow
+each-below f zero e k h = absurd (omega arith)
+each-below f (suc n) e k h =
+    let p = both (f n) (allBelow f n) e in
+    elim (order k n) [
+      | below l ↦ each-below f n (p .1) k l
+      | equal l ↦ ap f l ∙ p .0
+      | above l ↦ absurd (omega arith)
+    ]
+
+same : Bool → Bool → Bool
+same true b = b
+same false b = not b
+
+same-eq : (a b : Bool) → same a b ≡ true → a ≡ b
+unfolding same
+same-eq true b e = sym e
+same-eq false true e = e
+same-eq false false e = refl
+
+-- The two-digit country codes, a bit each: below 64, and from 64 to 99.
+pub low-bits : (v : ℕ) → v < 64 → eqb (17869152575837700096 / 2 ^ v % 2) 1 ≡ twoDigits v
+unfolding allBelow same twoDigits
+low-bits v h = same-eq _ _ (each-below (λ (u : ℕ). same (eqb (17869152575837700096 / 2 ^ u % 2) 1) (twoDigits u)) 64 refl v h)
+
+pub high-bits : (v : ℕ) → v < 36 → eqb (21413363719 / 2 ^ v % 2) 1 ≡ twoDigits (v + 64)
+unfolding allBelow same twoDigits
+high-bits v h = same-eq _ _ (each-below (λ (u : ℕ). same (eqb (21413363719 / 2 ^ u % 2) 1) (twoDigits (u + 64))) 36 refl v h)
+
+-- a word's first place, and the places after it moved up
+pub places-none : (k w : ℕ) → w / firstPlace ≡ 0 → placesOf (suc k) w ≡ []
+unfolding placesOf
+places-none k w e = rw (eq-eqb _ _ e)
+
+pub places-some : (k w : ℕ) → 0 < w / firstPlace → placesOf (suc k) w ≡ (w / firstPlace - 1) ∷ placesOf k (w % firstPlace * 11)
+unfolding placesOf
+places-some k w h = rw (ne-eqb (w / firstPlace) 0 (λ (e : w / firstPlace ≡ 0). omega arith))
+
+-- The first three places of a word.
+abbrev pub first : ℕ → ℕ
+first w = w / 3138428376721 / 121
+
+abbrev pub second : ℕ → ℕ
+second w = w / 3138428376721 / 11 % 11
+
+abbrev pub third : ℕ → ℕ
+third w = w / 3138428376721 % 11
+
+first-place : (w : ℕ) → first w ≡ w / firstPlace
+first-place w = omega arith
+
+second-place : (w : ℕ) → second w ≡ w % firstPlace * 11 / firstPlace
+second-place w = omega arith
+
+third-place : (w : ℕ) → third w ≡ w % firstPlace * 11 % firstPlace * 11 / firstPlace
+third-place w = omega arith
+
+-- the country of a digit string by its first digits
+country-one : (a : ℕ) (s : List ℕ) → oneDigit a ≡ true → country (a ∷ s) ≡ Code a
+unfolding country
+country-one a [] e = rw e (ap Code (omega arith))
+country-one a (b ∷ s) e = rw (e, le-leb 1 (suc (suc (length s))) (omega arith)) (ap Code (omega arith))
+
+module _ (a : ℕ) (e : oneDigit a ≡ false) where
+  short-one : country (a ∷ []) ≡ None
+  unfolding country
+  short-one = rw e refl
+
+  country-two : (b : ℕ) (s : List ℕ) → twoDigits (a * 10 + b) ≡ true → country (a ∷ b ∷ s) ≡ Code (a * 10 + b)
+  unfolding country
+  country-two b s t = rw (e, t, le-leb 2 (suc (suc (length s))) (omega arith)) (ap Code (omega arith))
+
+  short-two : (b : ℕ) → twoDigits (a * 10 + b) ≡ false → country (a ∷ b ∷ []) ≡ None
+  unfolding country
+  short-two b t = rw (e, t) refl
+
+  country-three : (b c : ℕ) (s : List ℕ) → twoDigits (a * 10 + b) ≡ false → country (a ∷ b ∷ c ∷ s) ≡ Code ((a * 10 + b) * 10 + c)
+  unfolding country
+  country-three b c s t = rw (e, t, le-leb 3 (suc (suc (suc (length s)))) (omega arith)) (ap Code (omega arith))
+
+not-one-digit : (f : ℕ) → 0 < f → (f ≡ 2 → ⊥) → (f ≡ 8 → ⊥) → oneDigit (f - 1) ≡ false
+not-one-digit f p a b =
+    let x : f - 1 ≡ 1 → ⊥ = λ e. a (omega arith) in
+    let y : f - 1 ≡ 7 → ⊥ = λ e. b (omega arith) in
+    rw (ne-eqb (f - 1) 1 x) (ne-eqb (f - 1) 7 y)
+
+-- Why the sums over three places do not wrap.
+pub two-fits : (w : ℕ) → w < keysEnd → ((first w - 1) * 10 + (second w - 1)) * 10 < 2 ^ 64
+two-fits w h = omega arith
+
+pub three-fits : (w : ℕ) → w < keysEnd → ((first w - 1) * 10 + (second w - 1)) * 10 + (third w - 1) < 2 ^ 64
+three-fits w h = omega arith
+
+of-digits : (w : ℕ) {ds : List ℕ} → digitsOfKey w ≡ ds → countryOfKey w ≡ country ds
+unfolding countryOfKey
+of-digits w e = ap country e
+
+country-none : country [] ≡ None
+unfolding country
+country-none = refl
+
+pub no-key : (w : ℕ) → keysEnd ≤ w → countryOfKey w ≡ None
+unfolding countryOfKey
+no-key w h = rw (le-ltb w keysEnd h)
+
+-- The country of a key by its first three places.
+module _ (w : ℕ) (h : w < keysEnd) where
+  all-places : digitsOfKey w ≡ placesOf 15 w
+  unfolding digitsOfKey
+  all-places = rw (lt-ltb w keysEnd h)
+
+  pub no-first : first w ≡ 0 → countryOfKey w ≡ None
+  no-first e = of-digits w (all-places ∙ places-none 14 w (sym (first-place w) ∙ e)) ∙ country-none
+
+  one-place : 0 < first w → digitsOfKey w ≡ (first w - 1) ∷ placesOf 14 (w % firstPlace * 11)
+  one-place f = all-places ∙ rw (first-place w) (places-some 14 w (rw (first-place w) at f))
+
+  pub by-one : (a : ℕ) → oneDigit a ≡ true → first w ≡ a + 1 → countryOfKey w ≡ Code a
+  by-one a o e =
+      let l : first w - 1 ≡ a = omega (arith, e) in
+      of-digits w (one-place (omega (arith, e)) ∙ ap (λ (x : ℕ). x ∷ placesOf 14 (w % firstPlace * 11)) l) ∙ country-one a _ o
+
+  module _ (f : 0 < first w) (x : first w ≡ 2 → ⊥) (y : first w ≡ 8 → ⊥) where
+    one : oneDigit (first w - 1) ≡ false
+    one = not-one-digit (first w) f x y
+
+    pub no-second : second w ≡ 0 → countryOfKey w ≡ None
+    no-second e =
+        of-digits w (one-place f ∙ ap (λ (s : List ℕ). (first w - 1) ∷ s) (places-none 13 _ (sym (second-place w) ∙ e)))
+        ∙ short-one _ one
+
+    module _ (g : 0 < second w) where
+      two-places : digitsOfKey w ≡ (first w - 1) ∷ (second w - 1) ∷ placesOf 13 (w % firstPlace * 11 % firstPlace * 11)
+      two-places =
+          one-place f
+          ∙ ap (λ (s : List ℕ). (first w - 1) ∷ s)
+          (rw (second-place w) (places-some 13 (w % firstPlace * 11) (rw (second-place w) at g)))
+
+      pub by-two : twoDigits ((first w - 1) * 10 + (second w - 1)) ≡ true → countryOfKey w ≡ Code ((first w - 1) * 10 + (second w - 1))
+      by-two t = of-digits w two-places ∙ country-two _ one _ _ t
+
+      pub no-third : twoDigits ((first w - 1) * 10 + (second w - 1)) ≡ false → third w ≡ 0 → countryOfKey w ≡ None
+      no-third t e =
+          of-digits w
+          (two-places
+          ∙ ap (λ (s : List ℕ). (first w - 1) ∷ (second w - 1) ∷ s) (places-none 12 _ (sym (third-place w) ∙ e)))
+          ∙ short-two _ one _ t
+
+      pub by-three :
+          twoDigits ((first w - 1) * 10 + (second w - 1)) ≡ false
+          → 0 < third w
+          → countryOfKey w ≡ Code (((first w - 1) * 10 + (second w - 1)) * 10 + (third w - 1))
+      by-three t l =
+          let rest : placesOf 13 (w % firstPlace * 11 % firstPlace * 11) ≡ (third w - 1) ∷ placesOf 12 (w % firstPlace * 11 % firstPlace * 11 % firstPlace * 11) =
+          rw (third-place w) (places-some 12 (w % firstPlace * 11 % firstPlace * 11) (rw (third-place w) at l)) in
+          of-digits w (two-places ∙ ap (λ (s : List ℕ). (first w - 1) ∷ (second w - 1) ∷ s) rest) ∙ country-three _ one _ _ _ t

@@ -1,0 +1,9 @@
+-- The laws of digit strings, keys and countries.
+pub mod Tests
+pub mod DigitLaws
+pub mod KeyLaws
+pub mod Powers
+pub mod CountryLaws
+pub mod CodeLaws
+pub mod Spelling
+pub mod CountedKeys

@@ -1,0 +1,52 @@
+-- Tests on numbers and what they show.
+-- Assumes nothing.
+use mathlib.Core.Path.{_≡_, refl, ap, sym, _∙_}
+use mathlib.Core.Bool.{Bool, true, false, _&&_, not, true≢false, false≢true}
+use mathlib.Core.List.{List, [], _∷_}
+use Prim.Native.Nat.{ℕ, _+_, _≤_, _<_}
+use native.Mathlib.Omega.{arith}
+use borrow.Author.Tests.{lt-ltb, le-ltb, eq-eqb, ne-eqb, ltb-true, ltb-false, eqb-true, eqb-false}
+use lib.Dec.{eqb, ltb}
+
+-- both of two tests hold where their conjunction does
+pub both : (a b : Bool) → (a && b) ≡ true → (a ≡ true) × (b ≡ true)
+both true b e = (refl, e)
+both false b e = absurd (false≢true e)
+
+pub and-right-false : (a : Bool) {b : Bool} → b ≡ false → (a && b) ≡ false
+and-right-false true e = e
+and-right-false false e = refl
+
+pub and-left-false : {a : Bool} (b : Bool) → a ≡ false → (a && b) ≡ false
+and-left-false b e = ap (λ (a : Bool). a && b) e
+
+pub and-left-true : {a : Bool} (b : Bool) → a ≡ true → (a && b) ≡ b
+and-left-true b e = ap (λ (a : Bool). a && b) e
+
+pub and-right-true : (a : Bool) {b : Bool} → b ≡ true → (a && b) ≡ a
+and-right-true true e = e
+and-right-true false e = refl
+
+-- how two numbers compare
+pub data Order (a b : ℕ) : Type 0 where
+  below : a < b → Order a b
+  equal : a ≡ b → Order a b
+  above : b < a → Order a b
+
+pub order : (a b : ℕ) → Order a b
+order a b = go (ltb a b) refl (ltb b a) refl
+  where
+    go : (t : Bool) → ltb a b ≡ t → (u : Bool) → ltb b a ≡ u → Order a b
+    go true e u f = below (ltb-true a b e)
+    go false e true f = above (ltb-true b a f)
+    go false e false f = equal (omega (arith, ltb-false a b e, ltb-false b a f))
+
+-- two tests agree that hold of each other's facts
+pub same-test : (s t : Bool) → (s ≡ true → t ≡ true) → (t ≡ true → s ≡ true) → s ≡ t
+same-test true t f g = sym (f refl)
+same-test false true f g = g refl
+same-test false false f g = refl
+
+pub same-eqb : (a b c d : ℕ) → (a ≡ b → c ≡ d) → (c ≡ d → a ≡ b) → eqb a b ≡ eqb c d
+same-eqb a b c d f g =
+    same-test (eqb a b) (eqb c d) (λ t. eq-eqb c d (f (eqb-true a b t))) (λ t. eq-eqb a b (g (eqb-true c d t)))

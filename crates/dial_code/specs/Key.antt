@@ -1,0 +1,92 @@
+-- Keys (document 01, "Codes and countries").
+use mathlib.Core.Path.{_≡_, refl}
+use mathlib.Core.Bool.{Bool, true, false, cond, _&&_}
+use mathlib.Core.List.{List, [], _∷_, map}
+use Prim.Native.Nat.{ℕ, zero, suc, _+_, _-_, _*_, _/_, _%_, _^_}
+use lib.Dec.{eqb, ltb}
+use Rattle.refusal.specs.Refusal.{outOfRange, notANumber}
+use Rattle.dial_code.specs.Digits.{mostDigits, digits, isWritten, isNumber, every, isAscii, digitOf}
+use Rattle.dial_code.specs.declared.Keyed.{Keyed}
+use Rattle.dial_code.specs.declared.Keyed.the-variants.{Key, Refused}
+
+-- The sum over the places i of a digit string, counted on from a first place, of (digit + 1) × 11^(15 − i).
+unfoldable pub keyFrom : ℕ → List ℕ → ℕ
+keyFrom i [] = 0
+keyFrom i (d ∷ ds) = (d + 1) * 11 ^ (mostDigits - i) + keyFrom (i + 1) ds
+
+-- The key of a digit string.
+unfoldable pub key : List ℕ → ℕ
+unfolding keyFrom
+key ds = keyFrom 1 ds
+
+-- every key is below this
+abbrev pub keysEnd : ℕ
+keysEnd = 11 ^ mostDigits
+
+-- The weight of the first place.
+abbrev pub firstPlace : ℕ
+firstPlace = 11 ^ 14
+
+-- The digits of at most k places of a word, up to the first place that holds none: the first place holds the digit + 1, and
+-- the places after it move up.
+unfoldable pub placesOf : ℕ → ℕ → List ℕ
+placesOf zero w = []
+placesOf (suc k) w = cond (eqb (w / firstPlace) 0) [] ((w / firstPlace - 1) ∷ placesOf k (w % firstPlace * 11))
+
+-- The digit string that a word is the key of, if it is one.
+unfoldable pub digitsOfKey : ℕ → List ℕ
+unfolding placesOf
+digitsOfKey w = cond (ltb w keysEnd) (placesOf mostDigits w) []
+
+-- The key of a code sent as a count of digits and a value, or that one is outside its range.
+unfoldable pub codeKey : ℕ → ℕ → Keyed
+unfolding key digits isWritten
+codeKey count v = cond (isWritten count v) (Key (key (digits count v))) (Refused outOfRange)
+
+-- The key of a number given as ASCII digits, or that it is none.
+unfoldable pub numberKey : List ℕ → Keyed
+unfolding key isNumber
+numberKey s = cond (every isAscii s && isNumber (map digitOf s)) (Key (key (map digitOf s))) (Refused notANumber)
+
+-- The key of a key's first n digits: the key less its remainder by 11^(15 − n).
+unfoldable pub prefixKey : ℕ → ℕ → ℕ
+prefixKey w n = w - w % 11 ^ (mostDigits - n)
+
+-- code 1, and the last key
+first-key : key (1 ∷ []) ≡ 759499667166482
+unfolding key
+first-key = refl
+
+last-key : key (digits 15 999999999999999) + 1 ≡ keysEnd
+unfolding key digits
+last-key = refl
+
+-- 1 before 10 before 11 before 2
+ordered : ltb (key (1 ∷ [])) (key (1 ∷ 0 ∷ [])) ∷ ltb (key (1 ∷ 0 ∷ [])) (key (1 ∷ 1 ∷ [])) ∷ ltb (key (1 ∷ 1 ∷ [])) (key (2 ∷ [])) ∷ [] ≡ true ∷ true ∷ true ∷ []
+unfolding key
+ordered = refl
+
+back : digitsOfKey (key (2 ∷ 3 ∷ 4 ∷ 8 ∷ 0 ∷ [])) ∷ digitsOfKey 0 ∷ digitsOfKey keysEnd ∷ [] ≡ (2 ∷ 3 ∷ 4 ∷ 8 ∷ 0 ∷ []) ∷ [] ∷ [] ∷ []
+unfolding digitsOfKey key
+back = refl
+
+code-keys : codeKey 1 1 ∷ codeKey 0 0 ∷ codeKey 16 1 ∷ codeKey 2 100 ∷ codeKey 2 1 ∷ [] ≡ Key 759499667166482 ∷ Refused 4 ∷ Refused 4 ∷ Refused 4 ∷ Key (key (0 ∷ 1 ∷ [])) ∷ []
+unfolding codeKey
+code-keys = refl
+
+-- "1", nothing, "01", "1/", "1:", sixteen ones
+number-keys :
+    numberKey (49 ∷ [])
+    ∷ numberKey []
+    ∷ numberKey (48 ∷ 49 ∷ [])
+    ∷ numberKey (49 ∷ 47 ∷ [])
+    ∷ numberKey (49 ∷ 58 ∷ [])
+    ∷ numberKey (49 ∷ 49 ∷ 49 ∷ 49 ∷ 49 ∷ 49 ∷ 49 ∷ 49 ∷ 49 ∷ 49 ∷ 49 ∷ 49 ∷ 49 ∷ 49 ∷ 49 ∷ 49 ∷ [])
+    ∷ []
+    ≡ Key 759499667166482 ∷ Refused 40 ∷ Refused 40 ∷ Refused 40 ∷ Refused 40 ∷ Refused 40 ∷ []
+unfolding numberKey
+number-keys = refl
+
+prefixes : prefixKey (key (2 ∷ 3 ∷ 4 ∷ [])) 2 ∷ prefixKey (key (2 ∷ 3 ∷ 4 ∷ [])) 3 ∷ prefixKey (key (2 ∷ [])) 0 ∷ [] ≡ key (2 ∷ 3 ∷ []) ∷ key (2 ∷ 3 ∷ 4 ∷ []) ∷ 0 ∷ []
+unfolding prefixKey key
+prefixes = refl

@@ -1,0 +1,5 @@
+-- The rules of digit strings, their keys and their countries.
+pub mod Digits
+pub mod Key
+pub mod CountryCode
+pub mod Code

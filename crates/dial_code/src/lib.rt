@@ -1,0 +1,208 @@
+// Digit strings, their keys and their countries (document 01, "Codes and countries").
+ghost use mathlib.Core.Path.{_≡_};
+ghost use Prim.Native.Nat.{_<_, _^_};
+ghost use lib.Dec.{eqb};
+ghost use Rattle.dial_code.specs.Key.{codeKey, numberKey, prefixKey, key, placesOf};
+ghost use Rattle.dial_code.specs.CountryCode.{countryOf, countryOfKey, twoDigits};
+ghost use Rattle.dial_code.specs.Code.{isCodeKey};
+
+// At most so many digits.
+const MOST_DIGITS: u64 = 15;
+// Every key is below this, 11 to the power 15.
+const KEYS_END: u64 = 4_177_248_169_415_651;
+// The weight of a key's first place, 11 to the power 14, and of its third.
+const FIRST_PLACE: u64 = 379_749_833_583_241;
+
+const THIRD_PLACE: u64 = 3_138_428_376_721;
+// The country codes of two digits: a bit for each value from 0 to 63, and from 64 on.
+const TWO_DIGITS_LOW: u64 = 0xf7fb_fb97_c810_0000;
+
+const TWO_DIGITS_HIGH: u64 = 0x0000_0004_fc56_0007;
+
+// The key of a digit string, or why it has none.
+pub enum Keyed {
+    Key(u64),
+    Refused(u64),
+}
+
+// The country of a digit string, as its country code's value; none where the string is too short to have one.
+pub enum Country {
+    Code(u64),
+    None,
+}
+
+fn wide(x: u8) -> u64
+    ensures { λ r. ⌜ (r ≡ x) × (r < 256) ⌝ }
+{
+    x as u64
+}
+
+fn power(base: u64, n: u64) -> u64
+    requires { ⌜ (0 < base) × (base ^ n < 2 ^ 64) ⌝ }
+    ensures { λ r. ⌜ r ≡ base ^ n ⌝ }
+{
+    let mut p: u64 = 1;
+    let mut left = n;
+    while 0 < left {
+        p *= base;
+        left -= 1;
+    }
+    p
+}
+
+// The key of a code sent as a count of digits and a value; refusal 4 where one is outside its range.
+pub fn code_key(count: u64, value: u64) -> Keyed
+    ensures { λ r. ⌜ r ≡ codeKey count value ⌝ }
+{
+    if count == 0 {
+        return Keyed::Refused(refusal::OUT_OF_RANGE);
+    }
+    if MOST_DIGITS < count {
+        return Keyed::Refused(refusal::OUT_OF_RANGE);
+    }
+    if power(10, count) <= value {
+        return Keyed::Refused(refusal::OUT_OF_RANGE);
+    }
+    let mut weight = power(11, MOST_DIGITS - count);
+    let mut v = value;
+    let mut left = count;
+    let mut key: u64 = 0;
+    while 0 < left {
+        key += (v % 10 + 1) * weight;
+        weight *= 11;
+        v /= 10;
+        left -= 1;
+    }
+    Keyed::Key(key)
+}
+
+// The key of a number given as ASCII digits, one a byte; refusal 40 where it is empty, over 15 digits, with a non-digit or
+// starting with 0.
+pub fn number_key(number: &[u8]) -> Keyed
+    ensures { λ r. ⌜ r ≡ numberKey (now (number .entry)) ⌝ }
+{
+    if number.len() == 0 {
+        return Keyed::Refused(refusal::NOT_A_NUMBER);
+    }
+    if 15 < number.len() {
+        return Keyed::Refused(refusal::NOT_A_NUMBER);
+    }
+    if number[0] == b'0' {
+        return Keyed::Refused(refusal::NOT_A_NUMBER);
+    }
+    let mut weight = FIRST_PLACE;
+    let mut key: u64 = 0;
+    let mut i: usize = 0;
+    while i < number.len() {
+        let b = wide(number[i]);
+        if b < 48 {
+            return Keyed::Refused(refusal::NOT_A_NUMBER);
+        }
+        if 57 < b {
+            return Keyed::Refused(refusal::NOT_A_NUMBER);
+        }
+        key += (b - 47) * weight;
+        weight /= 11;
+        i += 1;
+    }
+    Keyed::Key(key)
+}
+
+// The key of the first n digits of the code that a word is the key of.
+pub fn prefix_key(key: u64, n: u64) -> u64
+    ensures { λ r. ⌜ r ≡ prefixKey key n ⌝ }
+{
+    if MOST_DIGITS <= n {
+        return key;
+    }
+    key - key % power(11, MOST_DIGITS - n)
+}
+
+fn is_two_digits(v: u64) -> bool
+    requires { ⌜ v < 100 ⌝ }
+    ensures { λ r. ⌜ r ≡ twoDigits v ⌝ }
+{
+    if v < 64 {
+        return (TWO_DIGITS_LOW >> v) % 2 == 1;
+    }
+    (TWO_DIGITS_HIGH >> (v - 64)) % 2 == 1
+}
+
+// The country of the code that a word is the key of.
+pub fn country_of_key(key: u64) -> Country
+    ensures { λ r. ⌜ r ≡ countryOfKey key ⌝ }
+{
+    if KEYS_END <= key {
+        return Country::None;
+    }
+    let places = key / THIRD_PLACE;
+    let first = places / 121;
+    let second = places / 11 % 11;
+    let third = places % 11;
+    if first == 0 {
+        return Country::None;
+    }
+    if first == 2 {
+        return Country::Code(1);
+    }
+    if first == 8 {
+        return Country::Code(7);
+    }
+    if second == 0 {
+        return Country::None;
+    }
+    let two = (first - 1) * 10 + (second - 1);
+    if is_two_digits(two) {
+        return Country::Code(two);
+    }
+    if third == 0 {
+        return Country::None;
+    }
+    Country::Code(two * 10 + (third - 1))
+}
+
+// The country of a code sent as a count of digits and a value; none where one is outside its range.
+pub fn country_of(count: u64, value: u64) -> Country
+    ensures { λ r. ⌜ r ≡ countryOf count value ⌝ }
+{
+    match code_key(count, value) {
+        Keyed::Key(key) => country_of_key(key),
+        Keyed::Refused(_) => Country::None,
+    }
+}
+
+// Whether no place of a word that holds a digit stands after one that holds none: the word is the key of its digits.
+fn is_gapless(word: u64) -> bool
+    ensures { λ r. ⌜ r ≡ eqb (key (placesOf 15 word)) word ⌝ }
+{
+    let mut rest = word;
+    let mut left: u64 = MOST_DIGITS;
+    while 0 < left {
+        if rest == 0 {
+            return true;
+        }
+        if rest < FIRST_PLACE {
+            return false;
+        }
+        rest = rest % FIRST_PLACE * 11;
+        left -= 1;
+    }
+    rest == 0
+}
+
+// Whether a word is the key of an allowed code.
+pub fn is_code_key(word: u64) -> bool
+    ensures { λ r. ⌜ r ≡ isCodeKey word ⌝ }
+{
+    if KEYS_END <= word {
+        return false;
+    }
+    // The first place holds no digit, or the digit 0.
+    if word < 2 * FIRST_PLACE {
+        return false;
+    }
+    match country_of_key(word) {
+        Country::Code(_) => is_gapless(word),
+        Country::None => false,
+    }
+}

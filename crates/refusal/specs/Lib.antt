@@ -1,0 +1,2 @@
+-- The rules' own names for the refusal numbers.
+pub mod Refusal

@@ -1,0 +1,116 @@
+-- Laws on groups, for every count of groups together. Assumes nothing.
+use mathlib.Core.Path.{_≡_, refl, ap, ap₂, sym, _∙_}
+use mathlib.Core.Bool.{Bool, true, false, cond}
+use mathlib.Core.List.{List, [], _∷_, _++_}
+use Prim.Native.Nat.{ℕ, zero, suc, _+_, _*_, _/_, _%_, _^_, _≤_, _<_}
+use native.Mathlib.Nat.{div-lt-iff-lt-mul, pow-suc}
+use native.Mathlib.Decide.{decLe}
+use native.Mathlib.Omega.{arith}
+use borrow.Author.Tests.{lt-ltb, le-ltb, ne-eqb, eqb-false}
+use lib.ListN.{length, getD}
+use lib.Dec.{eqb, lit<}
+use Rattle.refusal.specs.Refusal.{notShortest}
+use Rattle.varint.specs.declared.Number.{Number}
+use Rattle.varint.specs.declared.Number.the-variants.{Value, Refused}
+use Rattle.varint.specs.Reading.{above, groups}
+use Rattle.varint.specs.Writing.{groupsOf, encode}
+
+-- Writing: an encoding is nine groups at most.
+pub nine : (n : ℕ) → encode n ≡ groupsOf 9 n
+unfolding encode
+nine n = refl
+
+-- A number of one group, and one of more.
+pub single : (k n : ℕ) → n < 128 → groupsOf (suc k) n ≡ n ∷ []
+unfolding groupsOf
+single k n h = simp (lt-ltb _ _ h)
+
+pub several : (k n : ℕ) → 128 ≤ n → groupsOf (suc k) n ≡ (n % 128 + 128) ∷ groupsOf k (n / 128)
+unfolding groupsOf
+several k n h = simp (le-ltb _ _ h)
+
+pub record More (k n : ℕ) : Type 0 where
+  pub j : ℕ
+  pub one : k ≡ suc j
+  pub less : n / 128 < 128 ^ suc j
+  pub bytes : groupsOf (suc k) n ≡ (n % 128 + 128) ∷ groupsOf (suc j) (n / 128)
+
+pub more : (k n : ℕ) → 128 ≤ n → n < 128 ^ suc k → More k n
+more zero n h l = absurd (omega arith)
+more (suc j) n h l =
+    record { j = j; one = refl; less = div-lt-iff-lt-mul (lit< tt) .1 (rw pow-suc at l); bytes = several (suc j) n h }
+
+pub some-byte : (k n : ℕ) → 0 < length (groupsOf (suc k) n)
+some-byte k n = elim (decLe 128 n) [
+  | yes h ↦ rw (several k n h) (omega arith)
+  | no h ↦ rw (single k n (omega arith)) (omega arith)
+]
+
+pub few-bytes : (k n : ℕ) → length (groupsOf k n) ≤ k
+unfolding groupsOf
+few-bytes zero n = omega arith
+few-bytes (suc k) n = elim (decLe 128 n) [
+  | yes h ↦ rw (several k n h) (omega (arith, few-bytes k (n / 128)))
+  | no h ↦ rw (single k n (omega arith)) (omega arith)
+]
+
+pub a-byte : (k n i : ℕ) → getD (groupsOf k n) i 0 < 256
+unfolding groupsOf
+a-byte zero n i = omega arith
+a-byte (suc k) n zero = elim (decLe 128 n) [
+  | yes h ↦ rw (several k n h) (omega arith)
+  | no h ↦ rw (single k n (omega arith)) (omega arith)
+]
+a-byte (suc k) n (suc i) = elim (decLe 128 n) [
+  | yes h ↦ rw (several k n h) (a-byte k (n / 128) i)
+  | no h ↦ rw (single k n (omega arith)) (omega arith)
+]
+
+-- A number is no refusal.
+pub apart : {n size e : ℕ} → Value n size ≡ Refused e → ⊥
+apart p = let z : _≡_ {A = ℕ} 0 1 = cc in omega arith
+
+-- Reading: a byte that is the last, one that is not, and what a group makes of the groups after it.
+pub read-last : (k b : ℕ) (s : List ℕ) → b < 128 → groups (suc k) (b ∷ s) ≡ Value b 1
+unfolding groups
+read-last k b s h = simp (lt-ltb _ _ h)
+
+pub read-on : (k b : ℕ) (s : List ℕ) → 128 ≤ b → groups (suc k) (b ∷ s) ≡ above (b % 128) (groups k s)
+unfolding groups
+read-on k b s h = simp (le-ltb _ _ h)
+
+pub above-value : (low n size : ℕ) → 0 < n → above low (Value n size) ≡ Value (low + 128 * n) (size + 1)
+unfolding above
+above-value low n size h = simp (ne-eqb n 0 (λ e. omega arith))
+
+pub record Above (low n size : ℕ) (x : Number) : Type 0 where
+  pub high : ℕ
+  pub rest : ℕ
+  pub value : x ≡ Value high rest
+  pub some : 0 < high
+  pub sum : n ≡ low + 128 * high
+  pub one : size ≡ rest + 1
+
+pub above-so : (low n size : ℕ) (x : Number) → above low x ≡ Value n size → Above low n size x
+unfolding above
+above-so low n size (Value m z) e = go (eqb m 0) refl e
+  where
+    go : (t : Bool) → eqb m 0 ≡ t → cond t (Refused notShortest) (Value (low + 128 * m) (z + 1)) ≡ Value n size → Above low n size (Value m z)
+    go true q p = absurd (apart (sym p))
+    go false q p = record { high = m; rest = z; value = refl; some = omega (arith, eqb-false m 0 q); sum = cc; one = cc }
+above-so low n size (Refused r) e = absurd (apart (sym e))
+
+-- What is written is read.
+pub back : (k n : ℕ) (post : List ℕ) → n < 128 ^ suc k
+    → groups (suc k) (groupsOf (suc k) n ++ post) ≡ Value n (length (groupsOf (suc k) n))
+back zero n post l = rw (single 0 n l) (read-last 0 n post l)
+back (suc j) n post l = elim (decLe 128 n) [
+  | yes h ↦
+      let p : n / 128 < 128 ^ suc j = div-lt-iff-lt-mul (lit< tt) .1 (rw pow-suc at l) in
+      rw (several (suc j) n h)
+      (read-on (suc j) (n % 128 + 128) _ (omega arith)
+      ∙ ap (above _) (back j (n / 128) post p)
+      ∙ above-value _ _ _ (omega arith)
+      ∙ ap₂ Value (omega arith) (omega arith))
+  | no h ↦ rw (single (suc j) n (omega arith)) (read-last (suc j) n post (omega arith))
+]

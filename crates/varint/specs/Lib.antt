@@ -1,0 +1,3 @@
+-- The rules of numbers in groups of seven bits.
+pub mod Reading
+pub mod Writing
