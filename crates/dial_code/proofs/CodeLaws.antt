@@ -1,25 +1,24 @@
--- Which words are keys: a word is the key of its digits where no place that holds a digit stands after one that holds none.
--- Assumes nothing.
+-- Which words are keys of allowed codes: a word is the key of its digits where no place that holds a digit stands after one
+-- that holds none. Assumes nothing.
 use mathlib.Core.Path.{_≡_, refl, ap, sym, _∙_}
-use mathlib.Core.Bool.{Bool, true, false, cond, _&&_, not}
+use mathlib.Core.Bool.{Bool, true, false, cond, _&&_}
 use mathlib.Core.List.{List, [], _∷_}
-use Prim.Native.Nat.{ℕ, zero, suc, _+_, _-_, _*_, _/_, _%_, _^_, _≤_, _<_}
-use native.Mathlib.Nat.{div-add-mod'}
-use native.Mathlib.Numerals.{add-one, sub-one}
+use Prim.Native.Nat.{ℕ, zero, suc, _+_, _-_, _*_, _/_, _%_, _≤_, _<_}
 use native.Mathlib.Omega.{arith}
-use borrow.Author.Tests.{lt-ltb, le-ltb, le-leb, lt-leb, eq-eqb, ne-eqb, eqb-true, leb-true}
-use lib.Dec.{eqb, leb, ltb}
+use borrow.Author.Tests.{le-leb, eq-eqb, ne-eqb, eqb-true}
+use lib.Dec.{eqb, leb}
 use lib.ListN.{length, take}
-use Rattle.dial_code.specs.Digits.{every, isDigit, isNumber, startsWithZero, value}
+use Rattle.dial_code.specs.Digits.{every, isDigit, isNumber, value}
 use Rattle.dial_code.specs.Key.{key, keyFrom, keysEnd, firstPlace, placesOf, digitsOfKey}
 use Rattle.dial_code.specs.CountryCode.{countryDigits, country, countryOfKey}
 use Rattle.dial_code.specs.Code.{isCode, isCodeKey}
 use Rattle.dial_code.specs.declared.Country.{Country}
 use Rattle.dial_code.specs.declared.Country.the-variants.{Code, None}
-use Rattle.dial_code.proofs.Tests.{both, same-eqb, and-left-true, and-left-false, and-right-true, and-right-false, Order, below, equal, above, order}
+use Rattle.dial_code.proofs.Tests.{both, same-eqb, below, equal, above, order}
+use Rattle.dial_code.proofs.Tests.{and-left-true, and-left-false, and-right-true, and-right-false}
 use Rattle.dial_code.proofs.DigitLaws.{no-digits, zero-first, number-cons, number-facts}
 use Rattle.dial_code.proofs.KeyLaws.{key-shift, digits-back}
-use Rattle.dial_code.proofs.CountryLaws.{places-none, places-some}
+use Rattle.dial_code.proofs.CountryLaws.{places-none, places-some, of-digits, beyond, all-places}
 
 -- a word is the key of the digits of its first k places
 abbrev pub keyed : ℕ → ℕ → Bool
@@ -37,6 +36,7 @@ key-tail : (ds : List ℕ) → length ds ≤ 14 → keyFrom 2 ds * 11 ≡ key ds
 unfolding key
 key-tail ds h = key-shift 1 ds (omega arith)
 
+-- The places of a word are at most so many digits.
 pub length-places : (k w : ℕ) → length (placesOf k w) ≤ k
 unfolding placesOf
 length-places zero w = omega arith
@@ -52,11 +52,14 @@ unfolding placesOf
 digits-places zero w h = refl
 digits-places (suc k) w h =
     elim (order 0 (w / firstPlace)) [
-      | below l ↦ rw (places-some k w l, le-leb (w / firstPlace - 1) 9 (omega arith)) (digits-places k (w % firstPlace * 11) (omega arith))
+      | below l ↦
+          rw (places-some k w l, le-leb (w / firstPlace - 1) 9 (omega arith))
+          (digits-places k (w % firstPlace * 11) (omega arith))
       | equal l ↦ rw (places-none k w (sym l))
       | above l ↦ absurd (omega arith)
     ]
 
+-- A word is the key of its digits or not, one place at a time: nothing is left; a gap; all places are read; one place more.
 pub nothing-left : (k w : ℕ) → w ≡ 0 → keyed k w ≡ true
 unfolding placesOf
 nothing-left zero w e = eq-eqb (key []) w (key-empty ∙ sym e)
@@ -75,7 +78,8 @@ pub one-more : (k w : ℕ) → 0 < k → k ≤ 15 → firstPlace ≤ w → keyed
 one-more zero w l m h = absurd (omega arith)
 one-more (suc k) w l m h =
     let p : placesOf (suc k) w ≡ (w / firstPlace - 1) ∷ rest = places-some k w (omega arith) in
-    let q : key (placesOf (suc k) w) ≡ (w / firstPlace - 1 + 1) * firstPlace + keyFrom 2 rest = ap key p ∙ key-cons (w / firstPlace - 1) rest in
+    let q : key (placesOf (suc k) w) ≡ (w / firstPlace - 1 + 1) * firstPlace + keyFrom 2 rest =
+    ap key p ∙ key-cons (w / firstPlace - 1) rest in
     let s : keyFrom 2 rest * 11 ≡ key rest = key-tail rest (omega (arith, length-places k (w % firstPlace * 11))) in
     let f : suc k - 1 ≡ k = omega arith in
     let v : (w / firstPlace - 1 + 1) * firstPlace + w % firstPlace ≡ w = omega arith in
@@ -87,22 +91,19 @@ one-more (suc k) w l m h =
     rest : List ℕ
     rest = placesOf k (w % firstPlace * 11)
 
--- a string that has a country is as long as its country code
-has-country : (ds : List ℕ) (n : ℕ) → country ds ≡ Code n → leb (countryDigits ds) (length ds) ≡ true
-unfolding country
-has-country ds n e = go (leb (countryDigits ds) (length ds)) refl e
-  where
-    go : (t : Bool) → leb (countryDigits ds) (length ds) ≡ t → cond t (Code (value (take (countryDigits ds) ds))) None ≡ Code n → leb (countryDigits ds) (length ds) ≡ true
-    go true q r = q
-    go false q r = let z : _≡_ {A = ℕ} 0 1 = cc in absurd (omega arith)
+-- whether there is a country
+abbrev isSome : Country → Bool
+isSome (Code n) = true
+isSome None = false
 
-no-country : (ds : List ℕ) → country ds ≡ None → leb (countryDigits ds) (length ds) ≡ false
+-- a string has a country where it is as long as its country code
+has-country : (ds : List ℕ) → leb (countryDigits ds) (length ds) ≡ isSome (country ds)
 unfolding country
-no-country ds e = go (leb (countryDigits ds) (length ds)) refl e
+has-country ds = go (leb (countryDigits ds) (length ds))
   where
-    go : (t : Bool) → leb (countryDigits ds) (length ds) ≡ t → cond t (Code (value (take (countryDigits ds) ds))) None ≡ None → leb (countryDigits ds) (length ds) ≡ false
-    go true q r = let z : _≡_ {A = ℕ} 0 1 = cc in absurd (omega arith)
-    go false q r = q
+    go : (t : Bool) → t ≡ isSome (cond t (Code (value (take (countryDigits ds) ds))) None)
+    go true = refl
+    go false = refl
 
 -- the rules' tests, taken apart one at a time
 code-test : (w : ℕ) → isCodeKey w ≡ (eqb (key (digitsOfKey w)) w && isCode (digitsOfKey w))
@@ -113,23 +114,14 @@ country-test : (ds : List ℕ) → isCode ds ≡ (isNumber ds && leb (countryDig
 unfolding isCode
 country-test ds = refl
 
-in-keys : (w : ℕ) → w < keysEnd → digitsOfKey w ≡ placesOf 15 w
-unfolding digitsOfKey
-in-keys w h = rw (lt-ltb w keysEnd h)
-
-beyond : (w : ℕ) → keysEnd ≤ w → digitsOfKey w ≡ []
-unfolding digitsOfKey
-beyond w h = rw (le-ltb w keysEnd h)
-
 refuted : (w : ℕ) → isNumber (digitsOfKey w) ≡ false → isCodeKey w ≡ false
 refuted w e =
     let ds = digitsOfKey w in
     code-test w
     ∙ and-right-false (eqb (key ds) w) (country-test ds ∙ and-left-false (leb (countryDigits ds) (length ds)) e)
 
-country-digits : (w : ℕ) → countryOfKey w ≡ country (digitsOfKey w)
-unfolding countryOfKey
-country-digits w = refl
+long-test : (w : ℕ) {x : Country} → countryOfKey w ≡ x → leb (countryDigits (digitsOfKey w)) (length (digitsOfKey w)) ≡ isSome x
+long-test w e = has-country (digitsOfKey w) ∙ ap isSome (sym (of-digits w refl) ∙ e)
 
 -- Whether a word is the key of an allowed code, by the tests of the code.
 pub beyond-keys : (w : ℕ) → keysEnd ≤ w → isCodeKey w ≡ false
@@ -142,32 +134,35 @@ no-first-digit w h =
       | below l ↦
           let o : w / firstPlace - 1 ≡ 0 = omega arith in
           ap isNumber
-          (in-keys w (omega arith) ∙ places-some 14 w l ∙ ap (λ (d : ℕ). d ∷ placesOf 14 (w % firstPlace * 11)) o)
+          (all-places w (omega arith) ∙ places-some 14 w l ∙ ap (λ (d : ℕ). d ∷ placesOf 14 (w % firstPlace * 11)) o)
           ∙ zero-first (placesOf 14 (w % firstPlace * 11))
-      | equal l ↦ ap isNumber (in-keys w (omega arith) ∙ places-none 14 w (sym l)) ∙ no-digits
+      | equal l ↦ ap isNumber (all-places w (omega arith) ∙ places-none 14 w (sym l)) ∙ no-digits
       | above l ↦ absurd (omega arith)
     ])
 
-pub with-country : (w n : ℕ) → w < keysEnd → 2 * firstPlace ≤ w → countryOfKey w ≡ Code n → isCodeKey w ≡ eqb (key (placesOf 15 w)) w
+pub with-country :
+    (w n : ℕ)
+    → w < keysEnd
+    → 2 * firstPlace ≤ w
+    → countryOfKey w ≡ Code n
+    → isCodeKey w ≡ eqb (key (placesOf 15 w)) w
 with-country w n h l e =
     let d = digits-places 15 w h in
     let p : placesOf 15 w ≡ (w / firstPlace - 1) ∷ placesOf 14 (w % firstPlace * 11) = places-some 14 w (omega arith) in
-    let m : isNumber (digitsOfKey w) ≡ true = ap isNumber (in-keys w h ∙ p) ∙ number-cons _ _ (omega arith) (rw p at d) (length-places 14 _) in
+    let m : isNumber (digitsOfKey w) ≡ true =
+    ap isNumber (all-places w h ∙ p) ∙ number-cons _ _ (omega arith) (rw p at d) (length-places 14 _) in
     code-test w
-    ∙ and-right-true _
-    (country-test (digitsOfKey w)
-    ∙ and-left-true _ m
-    ∙ has-country (digitsOfKey w) n (sym (country-digits w) ∙ e))
-    ∙ ap (λ (ds : List ℕ). eqb (key ds) w) (in-keys w h)
+    ∙ and-right-true _ (country-test (digitsOfKey w) ∙ and-left-true _ m ∙ long-test w e)
+    ∙ ap (λ (ds : List ℕ). eqb (key ds) w) (all-places w h)
 
 pub without-country : (w : ℕ) → countryOfKey w ≡ None → isCodeKey w ≡ false
 without-country w e =
     let ds = digitsOfKey w in
     code-test w
     ∙ and-right-false (eqb (key ds) w)
-    (country-test ds ∙ and-right-false (isNumber ds) (no-country ds (sym (country-digits w) ∙ e)))
+    (country-test ds ∙ and-right-false (isNumber ds) (long-test w e))
 
--- an allowed code comes back from its key
+-- An allowed code comes back from its key.
 pub code-back : (ds : List ℕ) → isCode ds ≡ true → digitsOfKey (key ds) ≡ ds
 code-back ds e =
     let n = number-facts ds (both _ _ (sym (country-test ds) ∙ e) .0) in

@@ -1,23 +1,21 @@
--- The key of a code sent as a count of digits and a value, one digit at a time from the last.
--- Assumes nothing.
+-- The key of a code sent as a count of digits and a value, one digit at a time from the last, and its country. Assumes nothing.
 use mathlib.Core.Path.{_≡_, refl, ap, sym, _∙_}
-use mathlib.Core.Bool.{Bool, true, false, cond, _&&_}
+use mathlib.Core.Bool.{Bool, true, false, cond}
 use mathlib.Core.List.{List, [], _∷_, _++_}
 use Prim.Native.Nat.{ℕ, zero, suc, _+_, _-_, _*_, _/_, _%_, _^_, _≤_, _<_}
 use native.Mathlib.Nat.{pow-suc, pow-le-pow-left, pow-le-pow-right, le-trans, lt-of-le-of-lt}
 use native.Mathlib.Omega.{arith}
 use borrow.Author.Tests.{leb-true, lt-leb, le-leb, lt-ltb, le-ltb}
-use lib.Dec.{leb, ltb, lit<}
+use lib.Dec.{leb, lit<}
 use lib.ListN.{length}
 use Rattle.refusal.specs.Refusal.{outOfRange}
 use Rattle.dial_code.specs.Digits.{every, isDigit, digits, isWritten}
 use Rattle.dial_code.specs.Key.{keyFrom, key, codeKey}
 use Rattle.dial_code.specs.CountryCode.{country, countryOf, countryOfKey}
 use Rattle.dial_code.specs.declared.Country.the-variants.{None}
-use Rattle.dial_code.specs.declared.Keyed.{Keyed}
 use Rattle.dial_code.specs.declared.Keyed.the-variants.{Key, Refused}
 use Rattle.dial_code.proofs.DigitLaws.{length-digits, digits-last, digits-are}
-use Rattle.dial_code.proofs.KeyLaws.{key-below, digits-back}
+use Rattle.dial_code.proofs.KeyLaws.{below-end, digits-back}
 use Rattle.dial_code.proofs.Tests.{both}
 
 key-last : (i d : ℕ) (ds : List ℕ) → keyFrom i (ds ++ (d ∷ [])) ≡ keyFrom i ds + (d + 1) * 11 ^ (15 - (i + length ds))
@@ -30,13 +28,18 @@ key-last i d (x ∷ ds) =
     omega (arith, rw f at (key-last (i + 1) d ds))
 
 -- What the last of k digits weighs, and what is left without it.
-pub last-place : (k v w : ℕ) → 0 < k → w ≡ 11 ^ (15 - k) → keyFrom 1 (digits k v) ≡ keyFrom 1 (digits (k - 1) (v / 10)) + (v % 10 + 1) * w
+pub last-place :
+    (k v w : ℕ)
+    → 0 < k
+    → w ≡ 11 ^ (15 - k)
+    → keyFrom 1 (digits k v) ≡ keyFrom 1 (digits (k - 1) (v / 10)) + (v % 10 + 1) * w
 last-place zero v w h e = absurd (omega arith)
 last-place (suc k) v w h e =
     let f : suc k - 1 ≡ k = omega arith in
     let g : 1 + k ≡ suc k = omega arith in
     rw (f, e, digits-last k v, key-last 1 (v % 10) (digits k (v / 10)), length-digits k (v / 10), g)
 
+-- The weight of the place before, and the most that a place weighs.
 pub next-weight : (k w : ℕ) → 0 < k → k ≤ 15 → w ≡ 11 ^ (15 - k) → w * 11 ≡ 11 ^ (15 - (k - 1))
 next-weight k w h l e =
     let f : 15 - (k - 1) ≡ suc (15 - k) = omega arith in
@@ -50,8 +53,10 @@ pub power-fits : (b n : ℕ) → 0 < b → b ≤ 11 → n ≤ 15 → b ^ n < 2 ^
 power-fits b n p h l =
     lt-of-le-of-lt (le-trans (pow-le-pow-left h n) (pow-le-pow-right (lit< tt) {i = n} {j = 15} l)) (lit< tt)
 
-pub below-end : (count v : ℕ) → count ≤ 15 → keyFrom 1 (digits count v) < 11 ^ 15
-below-end count v h = key-below 1 (digits count v) (digits-are count v) (rw (length-digits count v) (omega arith))
+-- The key of a code sent so is below the keys' end.
+pub sent-below : (count v : ℕ) → count ≤ 15 → keyFrom 1 (digits count v) < 11 ^ 15
+unfolding key
+sent-below count v h = below-end (digits count v) (digits-are count v) (rw (length-digits count v) h)
 
 -- The rule by the tests of the code.
 module _ (count v : ℕ) where
@@ -71,6 +76,7 @@ module _ (count v : ℕ) where
   unfolding codeKey
   sent p h l = rw (le-leb 1 count p, le-leb count 15 h, lt-ltb v (10 ^ count) l)
 
+-- No digit is left to weigh.
 pub all-weighed : (k v weighed : ℕ) {total : ℕ} → k ≡ 0 → weighed + keyFrom 1 (digits k v) ≡ total → weighed ≡ total
 unfolding digits keyFrom
 all-weighed zero v weighed e h = omega arith
@@ -90,7 +96,8 @@ module _ (count v : ℕ) where
   unfolding codeKey countryOf
   keyed-country k e = go (isWritten count v) refl e
     where
-      go : (t : Bool) → isWritten count v ≡ t → cond t (Key (key (digits count v))) (Refused outOfRange) ≡ Key k → cond t (country (digits count v)) None ≡ countryOfKey k
+      go : (t : Bool) → isWritten count v ≡ t → cond t (Key (key (digits count v))) (Refused outOfRange) ≡ Key k
+          → cond t (country (digits count v)) None ≡ countryOfKey k
       go true q r =
           let s : key (digits count v) ≡ k = cc in
           let l : length (digits count v) ≤ 15 = rw (length-digits count v) (written q) in
@@ -101,6 +108,7 @@ module _ (count v : ℕ) where
   unfolding codeKey countryOf
   refused-country e p = go (isWritten count v) p
     where
-      go : (t : Bool) → cond t (Key (key (digits count v))) (Refused outOfRange) ≡ Refused e → cond t (country (digits count v)) None ≡ None
+      go : (t : Bool) → cond t (Key (key (digits count v))) (Refused outOfRange) ≡ Refused e
+          → cond t (country (digits count v)) None ≡ None
       go true r = let z : _≡_ {A = ℕ} 0 1 = cc in absurd (omega arith)
       go false r = refl

@@ -1,19 +1,16 @@
--- The country of a key from its first three places, and the two-digit country codes as bits.
--- Assumes nothing.
+-- The country of a key from its first three places, and the two-digit country codes as bits. Assumes nothing.
 use mathlib.Core.Path.{_≡_, refl, ap, sym, _∙_}
-use mathlib.Core.Bool.{Bool, true, false, cond, _&&_, _||_, not}
+use mathlib.Core.Bool.{Bool, true, false, _&&_, not}
 use mathlib.Core.List.{List, [], _∷_}
 use Prim.Native.Nat.{ℕ, zero, suc, _+_, _-_, _*_, _/_, _%_, _^_, _≤_, _<_}
 use native.Mathlib.Omega.{arith}
 use borrow.Author.Tests.{lt-ltb, le-ltb, le-leb, eq-eqb, ne-eqb}
-use lib.Dec.{eqb, leb, ltb}
+use lib.Dec.{eqb}
 use lib.ListN.{length}
-use Rattle.dial_code.specs.Digits.{value}
 use Rattle.dial_code.specs.Key.{keysEnd, firstPlace, placesOf, digitsOfKey}
-use Rattle.dial_code.specs.CountryCode.{oneDigit, twoDigits, countryDigits, country, countryOfKey}
-use Rattle.dial_code.specs.declared.Country.{Country}
+use Rattle.dial_code.specs.CountryCode.{oneDigit, twoDigits, country, countryOfKey}
 use Rattle.dial_code.specs.declared.Country.the-variants.{Code, None}
-use Rattle.dial_code.proofs.Tests.{both, Order, below, equal, above, order}
+use Rattle.dial_code.proofs.Tests.{both, below, equal, above, order}
 
 -- a test that holds of every number below a bound, found by computing it
 allBelow : (ℕ → Bool) → ℕ → Bool
@@ -114,7 +111,8 @@ two-fits w h = omega arith
 pub three-fits : (w : ℕ) → w < keysEnd → ((first w - 1) * 10 + (second w - 1)) * 10 + (third w - 1) < 2 ^ 64
 three-fits w h = omega arith
 
-of-digits : (w : ℕ) {ds : List ℕ} → digitsOfKey w ≡ ds → countryOfKey w ≡ country ds
+-- A word's country is that of its digits.
+pub of-digits : (w : ℕ) {ds : List ℕ} → digitsOfKey w ≡ ds → countryOfKey w ≡ country ds
 unfolding countryOfKey
 of-digits w e = ap country e
 
@@ -122,13 +120,17 @@ country-none : country [] ≡ None
 unfolding country
 country-none = refl
 
+-- From the keys' end on a word has no digits.
+pub beyond : (w : ℕ) → keysEnd ≤ w → digitsOfKey w ≡ []
+unfolding digitsOfKey
+beyond w h = rw (le-ltb w keysEnd h)
+
 pub no-key : (w : ℕ) → keysEnd ≤ w → countryOfKey w ≡ None
-unfolding countryOfKey
-no-key w h = rw (le-ltb w keysEnd h)
+no-key w h = of-digits w (beyond w h) ∙ country-none
 
 -- The country of a key by its first three places.
 module _ (w : ℕ) (h : w < keysEnd) where
-  all-places : digitsOfKey w ≡ placesOf 15 w
+  pub all-places : digitsOfKey w ≡ placesOf 15 w
   unfolding digitsOfKey
   all-places = rw (lt-ltb w keysEnd h)
 
@@ -159,7 +161,9 @@ module _ (w : ℕ) (h : w < keysEnd) where
           ∙ ap (λ (s : List ℕ). (first w - 1) ∷ s)
           (rw (second-place w) (places-some 13 (w % firstPlace * 11) (rw (second-place w) at g)))
 
-      pub by-two : twoDigits ((first w - 1) * 10 + (second w - 1)) ≡ true → countryOfKey w ≡ Code ((first w - 1) * 10 + (second w - 1))
+      pub by-two :
+          twoDigits ((first w - 1) * 10 + (second w - 1)) ≡ true
+          → countryOfKey w ≡ Code ((first w - 1) * 10 + (second w - 1))
       by-two t = of-digits w two-places ∙ country-two _ one _ _ t
 
       pub no-third : twoDigits ((first w - 1) * 10 + (second w - 1)) ≡ false → third w ≡ 0 → countryOfKey w ≡ None
@@ -174,6 +178,7 @@ module _ (w : ℕ) (h : w < keysEnd) where
           → 0 < third w
           → countryOfKey w ≡ Code (((first w - 1) * 10 + (second w - 1)) * 10 + (third w - 1))
       by-three t l =
-          let rest : placesOf 13 (w % firstPlace * 11 % firstPlace * 11) ≡ (third w - 1) ∷ placesOf 12 (w % firstPlace * 11 % firstPlace * 11 % firstPlace * 11) =
-          rw (third-place w) (places-some 12 (w % firstPlace * 11 % firstPlace * 11) (rw (third-place w) at l)) in
+          let v : ℕ = w % firstPlace * 11 % firstPlace * 11 in
+          let rest : placesOf 13 v ≡ (third w - 1) ∷ placesOf 12 (v % firstPlace * 11) =
+          rw (third-place w) (places-some 12 v (rw (third-place w) at l)) in
           of-digits w (two-places ∙ ap (λ (s : List ℕ). (first w - 1) ∷ (second w - 1) ∷ s) rest) ∙ country-three _ one _ _ _ t

@@ -1,15 +1,15 @@
--- Digit strings and (count, value) determine each other, for every length.
--- Assumes nothing.
+-- Digit strings, for every length together: a string and its count of digits and value determine each other, and what makes
+-- a string a number. Assumes nothing.
 use mathlib.Core.Path.{_≡_, refl, ap, ap₂, sym, _∙_}
-use mathlib.Core.Bool.{Bool, true, false, _&&_, not}
+use mathlib.Core.Bool.{true, false, _&&_, not}
 use mathlib.Core.List.{List, [], _∷_, _++_}
-use Prim.Native.Nat.{ℕ, zero, suc, _+_, _-_, _*_, _/_, _%_, _^_, _≤_, _<_}
-use native.Mathlib.Nat.{pow-suc, pow-succ', div-one, div-div-eq-div-mul, mod-eq-of-lt, mod-lt, one-le-pow, mul-comm, mod-one}
+use Prim.Native.Nat.{ℕ, zero, suc, _+_, _*_, _/_, _%_, _^_, _≤_, _<_}
+use native.Mathlib.Nat.{pow-succ', div-one, div-div-eq-div-mul, mod-eq-of-lt, mod-lt, one-le-pow, mod-one}
 use native.Mathlib.Omega.{arith}
 use borrow.Author.Tests.{le-leb, leb-true, ne-eqb}
 use lib.Arith.{digits-div, digits-mod, digits-lt, mod-mul}
 use lib.Dec.{leb, lit<}
-use lib.ListN.{length, length-append}
+use lib.ListN.{length}
 use Rattle.dial_code.specs.Digits.{digits, value, every, isDigit, isNumber, startsWithZero}
 use Rattle.dial_code.proofs.Tests.{both, and-left-true, and-right-false}
 
@@ -20,6 +20,7 @@ first-digit d ds e = omega (arith, leb-true d 9 (both (isDigit d) (every isDigit
 pub rest-digits : (d : ℕ) (ds : List ℕ) → every isDigit (d ∷ ds) ≡ true → every isDigit ds ≡ true
 rest-digits d ds e = both (isDigit d) (every isDigit ds) e .1
 
+-- A value written with a count of digits has that many, and they are digits.
 pub length-digits : (k v : ℕ) → length (digits k v) ≡ k
 unfolding digits
 length-digits zero v = refl
@@ -48,6 +49,7 @@ value-mod (suc k) v = rw (length-digits k v, value-mod k v, split k v)
 pub value-digits : (k v : ℕ) → v < 10 ^ k → value (digits k v) ≡ v
 value-digits k v h = value-mod k v ∙ mod-eq-of-lt h
 
+-- A string's value is one that so many digits can write.
 pub value-below : (ds : List ℕ) → every isDigit ds ≡ true → value ds < 10 ^ length ds
 unfolding value
 value-below [] e = lit< tt
@@ -59,9 +61,11 @@ digits-same : (k v u : ℕ) → v % 10 ^ k ≡ u % 10 ^ k → digits k v ≡ dig
 unfolding digits
 digits-same zero v u e = refl
 digits-same (suc k) v u e =
+    let p = mod-lt v (ten k) in
+    let q = mod-lt u (ten k) in
     let w : (v / 10 ^ k % 10) * 10 ^ k + v % 10 ^ k ≡ (u / 10 ^ k % 10) * 10 ^ k + u % 10 ^ k = sym (split k v) ∙ e ∙ split k u in
-    let a : v / 10 ^ k % 10 ≡ u / 10 ^ k % 10 = sym (digits-div _ (mod-lt v (ten k))) ∙ ap (λ (x : ℕ). x / 10 ^ k) w ∙ digits-div _ (mod-lt u (ten k)) in
-    let b : v % 10 ^ k ≡ u % 10 ^ k = sym (digits-mod _ (mod-lt v (ten k))) ∙ ap (λ (x : ℕ). x % 10 ^ k) w ∙ digits-mod _ (mod-lt u (ten k)) in
+    let a : v / 10 ^ k % 10 ≡ u / 10 ^ k % 10 = sym (digits-div _ p) ∙ ap (λ (x : ℕ). x / 10 ^ k) w ∙ digits-div _ q in
+    let b : v % 10 ^ k ≡ u % 10 ^ k = sym (digits-mod _ p) ∙ ap (λ (x : ℕ). x % 10 ^ k) w ∙ digits-mod _ q in
     ap₂ _∷_ a (digits-same k v u b)
 
 -- A digit string comes back from its length and its value.
@@ -71,8 +75,10 @@ digits-value [] e = refl
 digits-value (d ∷ ds) e =
     let r = rest-digits d ds e in
     let l = value-below ds r in
-    let a : (d * 10 ^ length ds + value ds) / 10 ^ length ds % 10 ≡ d = ap (λ (x : ℕ). x % 10) (digits-div d l) ∙ mod-eq-of-lt (first-digit d ds e) in
-    let b : digits (length ds) (d * 10 ^ length ds + value ds) ≡ ds = digits-same (length ds) _ _ (digits-mod d l ∙ sym (mod-eq-of-lt l)) ∙ digits-value ds r in
+    let a : (d * 10 ^ length ds + value ds) / 10 ^ length ds % 10 ≡ d =
+    ap (λ (x : ℕ). x % 10) (digits-div d l) ∙ mod-eq-of-lt (first-digit d ds e) in
+    let b : digits (length ds) (d * 10 ^ length ds + value ds) ≡ ds =
+    digits-same (length ds) _ _ (digits-mod d l ∙ sym (mod-eq-of-lt l)) ∙ digits-value ds r in
     ap₂ _∷_ a b
 
 -- The last digit is the value's remainder by ten.
@@ -80,22 +86,30 @@ pub digits-last : (k v : ℕ) → digits (suc k) v ≡ digits k (v / 10) ++ (v %
 unfolding digits
 digits-last zero v = ap (λ (x : ℕ). x % 10 ∷ []) (div-one v)
 digits-last (suc k) v =
-    let a : v / 10 ^ suc k % 10 ≡ v / 10 / 10 ^ k % 10 = ap (λ (x : ℕ). x % 10) (rw (pow-succ' 10 k) (sym (div-div-eq-div-mul v 10 (10 ^ k)))) in
+    let a : v / 10 ^ suc k % 10 ≡ v / 10 / 10 ^ k % 10 =
+    ap (λ (x : ℕ). x % 10) (rw (pow-succ' 10 k) (sym (div-div-eq-div-mul v 10 (10 ^ k)))) in
     ap₂ _∷_ a (digits-last k v)
 
--- What makes a digit string a number.
+-- What makes a digit string a number, and what a number shows.
 pub no-digits : isNumber [] ≡ false
 unfolding isNumber
 no-digits = refl
 
 pub zero-first : (ds : List ℕ) → isNumber (0 ∷ ds) ≡ false
 unfolding isNumber
-zero-first ds = and-right-false (leb 1 (suc (length ds))) (and-right-false (leb (suc (length ds)) 15) (and-right-false (every isDigit ds) refl))
+zero-first ds =
+    and-right-false (leb 1 (suc (length ds)))
+    (and-right-false (leb (suc (length ds)) 15) (and-right-false (every isDigit ds) refl))
 
 pub number-cons : (d : ℕ) (ds : List ℕ) → 0 < d → every isDigit (d ∷ ds) ≡ true → length ds ≤ 14 → isNumber (d ∷ ds) ≡ true
 unfolding isNumber
 number-cons d ds p e h =
-    rw (le-leb 1 (suc (length ds)) (omega arith), le-leb (suc (length ds)) 15 (omega arith), e, ne-eqb d 0 (λ (z : d ≡ 0). omega arith))
+    rw (
+      le-leb 1 (suc (length ds)) (omega arith),
+      le-leb (suc (length ds)) 15 (omega arith),
+      e,
+      ne-eqb d 0 (λ (z : d ≡ 0). omega arith),
+    )
 
 pub number-facts : (ds : List ℕ) → isNumber ds ≡ true → (length ds ≤ 15) × (every isDigit ds ≡ true)
 unfolding isNumber

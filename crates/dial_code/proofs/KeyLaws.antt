@@ -1,23 +1,22 @@
 -- The laws of keys, for every length together: a digit string comes back from its key, key order is dictionary order, and a
--- beginning's key is the key less its remainder by a power of 11.
--- Assumes nothing.
-use mathlib.Core.Path.{_≡_, refl, ap, ap₂, sym, _∙_}
+-- beginning's key is the key less its remainder by a power of 11. Assumes nothing.
+use mathlib.Core.Path.{_≡_, refl, ap, sym, _∙_}
 use mathlib.Core.Bool.{Bool, true, false, cond, _&&_}
-use mathlib.Core.List.{List, [], _∷_, _++_}
+use mathlib.Core.List.{List, [], _∷_}
 use Prim.Native.Nat.{ℕ, zero, suc, _+_, _-_, _*_, _/_, _%_, _^_, _≤_, _<_}
 use native.Mathlib.Nat.{zero-mul, add-zero, pow-suc, pow-succ', one-le-pow, mul-le-mul-right}
 use native.Mathlib.Omega.{arith}
-use borrow.Author.Tests.{lt-ltb, le-ltb, eq-eqb, ne-eqb, leb-true}
+use borrow.Author.Tests.{lt-ltb, le-ltb, eq-eqb, ne-eqb}
 use lib.Arith.{digits-div, digits-mod, digits-lt}
 use lib.Pow.{pow-add}
-use lib.Dec.{eqb, leb, ltb, lit<}
-use lib.ListN.{length, take, length-append}
+use lib.Dec.{eqb, ltb, lit<}
+use lib.ListN.{length, take}
 use lib.Seq.{take-all}
-use Rattle.dial_code.specs.Digits.{every, isDigit, mostDigits}
+use Rattle.dial_code.specs.Digits.{every, isDigit}
 use Rattle.dial_code.specs.Key.{keyFrom, key, keysEnd, firstPlace, placesOf, digitsOfKey, prefixKey}
 use Rattle.dial_code.specs.Code.{precedes}
 use Rattle.dial_code.proofs.DigitLaws.{first-digit, rest-digits}
-use Rattle.dial_code.proofs.Tests.{Order, below, equal, above, order}
+use Rattle.dial_code.proofs.Tests.{below, equal, above, order}
 
 eleven : (k : ℕ) → 0 < 11 ^ k
 eleven k = one-le-pow k 11 (lit< tt)
@@ -33,6 +32,7 @@ key-below i (d ∷ ds) e h =
     let s : d + 1 < 11 = omega (arith, first-digit d ds e) in
     rw (f, pow-succ' 11 (15 - i)) (digits-lt s l)
 
+-- Every key is below the keys' end.
 pub below-end : (ds : List ℕ) → every isDigit ds ≡ true → length ds ≤ 15 → key ds < keysEnd
 unfolding key
 below-end ds e h = key-below 1 ds e (omega arith)
@@ -56,7 +56,11 @@ key-rest d ds e h =
     ap (λ (x : ℕ). x * 11) (digits-mod (d + 1) (key-below 2 ds (rest-digits d ds e) (omega arith))) ∙ key-shift 1 ds (omega arith)
 
 -- the digits of a key, one place at a time
-places-cons : (k d : ℕ) (ds : List ℕ) → every isDigit (d ∷ ds) ≡ true → length ds ≤ 14 → placesOf (suc k) (key (d ∷ ds)) ≡ d ∷ placesOf k (key ds)
+places-cons :
+    (k d : ℕ) (ds : List ℕ)
+    → every isDigit (d ∷ ds) ≡ true
+    → length ds ≤ 14
+    → placesOf (suc k) (key (d ∷ ds)) ≡ d ∷ placesOf k (key ds)
 unfolding placesOf
 places-cons k d ds e h =
     let f : key (d ∷ ds) / firstPlace ≡ d + 1 = key-first d ds e h in
@@ -69,7 +73,8 @@ places-back zero [] e h l = refl
 places-back zero (d ∷ ds) e h l = absurd (omega arith)
 places-back (suc k) [] e h l = refl
 places-back (suc k) (d ∷ ds) e h l =
-    places-cons k d ds e (omega arith) ∙ ap (λ (x : List ℕ). d ∷ x) (places-back k ds (rest-digits d ds e) (omega arith) (omega arith))
+    places-cons k d ds e (omega arith)
+    ∙ ap (λ (x : List ℕ). d ∷ x) (places-back k ds (rest-digits d ds e) (omega arith) (omega arith))
 
 -- A digit string comes back from its key.
 pub digits-back : (ds : List ℕ) → every isDigit ds ≡ true → length ds ≤ 15 → digitsOfKey (key ds) ≡ ds
@@ -79,16 +84,29 @@ digits-back ds e h =
     rw (lt-ltb _ _ l) (places-back 15 ds e h (omega arith))
 
 -- Different digit strings have different keys.
-pub key-injective : (ds es : List ℕ) → every isDigit ds ≡ true → every isDigit es ≡ true → length ds ≤ 15 → length es ≤ 15 → key ds ≡ key es → ds ≡ es
+pub key-injective :
+    (ds es : List ℕ)
+    → every isDigit ds ≡ true
+    → every isDigit es ≡ true
+    → length ds ≤ 15
+    → length es ≤ 15
+    → key ds ≡ key es
+    → ds ≡ es
 key-injective ds es d e h l p = sym (digits-back ds d h) ∙ ap digitsOfKey p ∙ digits-back es e l
 
 -- two numbers of a high and a low part compare by the high parts first
-by-parts : (x y weight a b : ℕ) → a < weight → b < weight → ltb ((x + 1) * weight + a) ((y + 1) * weight + b) ≡ cond (ltb x y) true (eqb x y && ltb a b)
+by-parts :
+    (x y weight a b : ℕ)
+    → a < weight
+    → b < weight
+    → ltb ((x + 1) * weight + a) ((y + 1) * weight + b) ≡ cond (ltb x y) true (eqb x y && ltb a b)
 by-parts x y weight a b p q =
     elim (order x y) [
       | below m ↦ rw (lt-ltb x y m) (yes (omega (arith, mul-le-mul-right weight m)))
       | equal m ↦ rw (le-ltb x y (omega arith), eq-eqb x y m) (level (ap (λ (z : ℕ). (z + 1) * weight) m))
-      | above m ↦ rw (le-ltb x y (omega arith), ne-eqb x y (λ (e : x ≡ y). omega arith)) (no (omega (arith, mul-le-mul-right weight m)))
+      | above m ↦
+          rw (le-ltb x y (omega arith), ne-eqb x y (λ (e : x ≡ y). omega arith))
+          (no (omega (arith, mul-le-mul-right weight m)))
     ]
   where
     yes : (x + 1) * weight + a < (y + 1) * weight + b → ltb ((x + 1) * weight + a) ((y + 1) * weight + b) ≡ true
@@ -148,7 +166,13 @@ record Parts (i n : ℕ) (ds : List ℕ) : Type 0 where
 parts : (i n : ℕ) (ds : List ℕ) → every isDigit ds ≡ true → i + length ds ≤ 16 → i + n ≤ 16 → Parts i n ds
 unfolding keyFrom
 parts i zero ds e h l =
-    record { count = 0; low = keyFrom i ds; weighs = sym (zero-mul _); whole = omega arith; less = rw add-zero (key-below i ds e h) }
+    record {
+      count = 0;
+      low = keyFrom i ds;
+      weighs = sym (zero-mul _);
+      whole = omega arith;
+      less = rw add-zero (key-below i ds e h);
+    }
 parts i (suc n) [] e h l = record { count = 0; low = 0; weighs = sym (zero-mul _); whole = refl; less = eleven _ }
 parts i (suc n) (d ∷ ds) e h l =
     let r = parts (i + 1) n ds (rest-digits d ds e) (omega arith) (omega arith) in

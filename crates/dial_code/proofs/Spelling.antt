@@ -1,23 +1,23 @@
--- The key of a number given as ASCII digits, one byte at a time.
+-- The key of a number given as ASCII digits: the model of number_key's loop, one byte at a time, and that it is the rule.
 -- Assumes nothing.
-use mathlib.Core.Path.{_≡_, refl, ap, ap₂, sym, _∙_}
-use mathlib.Core.Bool.{Bool, true, false, cond, _&&_, not}
+use mathlib.Core.Path.{_≡_, refl, ap, _∙_}
+use mathlib.Core.Bool.{Bool, true, false, cond, _&&_}
 use mathlib.Core.List.{List, [], _∷_, map}
-use Prim.Native.Nat.{ℕ, zero, suc, _+_, _-_, _*_, _/_, _%_, _^_, _≤_, _<_}
-use native.Mathlib.Nat.{pow-suc, mul-div-cancel, pow-le-pow-right, mul-le-mul-right}
+use Prim.Native.Nat.{ℕ, suc, _+_, _-_, _*_, _/_, _^_, _≤_, _<_}
+use native.Mathlib.Nat.{pow-suc, mul-div-cancel, mul-le-mul-right}
 use native.Mathlib.Numerals.{add-one}
 use native.Mathlib.Omega.{arith}
-use borrow.Author.Tests.{lt-leb, le-leb, eq-eqb, ne-eqb, leb-true}
-use lib.Dec.{eqb, leb, lit<}
+use borrow.Author.Tests.{lt-leb, le-leb, leb-true}
+use lib.Dec.{leb, lit<}
 use lib.ListN.{length, getD, drop, length-map, drop-of-length-le}
 use lib.Seq.{drop-cons}
 use Rattle.refusal.specs.Refusal.{notANumber}
-use Rattle.dial_code.specs.Digits.{every, isDigit, isAscii, digitOf, isNumber, startsWithZero}
-use Rattle.dial_code.specs.Key.{key, keyFrom, numberKey}
+use Rattle.dial_code.specs.Digits.{every, isDigit, isAscii, digitOf, isNumber}
+use Rattle.dial_code.specs.Key.{keyFrom, numberKey}
 use Rattle.dial_code.specs.declared.Keyed.{Keyed}
 use Rattle.dial_code.specs.declared.Keyed.the-variants.{Key, Refused}
 use Rattle.dial_code.proofs.DigitLaws.{zero-first, number-cons}
-use Rattle.dial_code.proofs.Tests.{both, and-left-true, and-left-false, and-right-false}
+use Rattle.dial_code.proofs.Tests.{both, and-right-false}
 
 -- The rule from the i-th byte on, with what the bytes before it weigh.
 unfoldable pub spelledFrom : ℕ → ℕ → List ℕ → Keyed
@@ -32,7 +32,10 @@ ascii-digits (b ∷ s) e =
     let h : b - 48 ≤ 9 = omega (arith, leb-true b 57 (q .1)) in
     rw (le-leb (b - 48) 9 h) (ascii-digits s (p .1))
 
-number-test : (s : List ℕ) → numberKey s ≡ cond (every isAscii s && isNumber (map digitOf s)) (Key (keyFrom 1 (map digitOf s))) (Refused notANumber)
+number-test :
+    (s : List ℕ)
+    → numberKey s
+    ≡ cond (every isAscii s && isNumber (map digitOf s)) (Key (keyFrom 1 (map digitOf s))) (Refused notANumber)
 unfolding numberKey
 number-test s = refl
 
@@ -41,6 +44,7 @@ no-number s e =
     number-test s
     ∙ ap (λ (t : Bool). cond t (Key (keyFrom 1 (map digitOf s))) (Refused notANumber)) (and-right-false (every isAscii s) e)
 
+-- The rule by the tests before the loop.
 pub empty : (s : List ℕ) → length s ≡ 0 → numberKey s ≡ Refused notANumber
 unfolding isNumber
 empty [] e = no-number [] refl
@@ -67,7 +71,9 @@ starts (b ∷ s) h l n = number-test (b ∷ s) ∙ go (every isAscii (b ∷ s)) 
     all : Keyed
     all = Key (keyFrom 1 (map digitOf (b ∷ s)))
 
-    go : (t : Bool) → every isAscii (b ∷ s) ≡ t → cond (t && isNumber (map digitOf (b ∷ s))) all (Refused notANumber) ≡ cond t (Key (0 + keyFrom 1 (map digitOf (b ∷ s)))) (Refused notANumber)
+    go : (t : Bool) → every isAscii (b ∷ s) ≡ t
+        → cond (t && isNumber (map digitOf (b ∷ s))) all (Refused notANumber)
+        ≡ cond t (Key (0 + keyFrom 1 (map digitOf (b ∷ s)))) (Refused notANumber)
     go true e =
         let q = both (leb 48 b) (leb b 57) (both (isAscii b) (every isAscii s) e .0) in
         let p : 0 < b - 48 = omega (arith, leb-true 48 b (q .0), n) in
@@ -75,6 +81,7 @@ starts (b ∷ s) h l n = number-test (b ∷ s) ∙ go (every isAscii (b ∷ s)) 
         rw (number-cons (b - 48) (map digitOf s) p (ascii-digits (b ∷ s) e) m) (ap Key (omega arith))
     go false e = refl
 
+-- One byte: a digit, no digit, and no byte left.
 pub turn :
     {r : Keyed} (i weighed w b : ℕ) (s : List ℕ)
     → r ≡ spelledFrom i weighed s
@@ -105,15 +112,21 @@ pub ends : {r : Keyed} (i weighed : ℕ) (s : List ℕ) → r ≡ spelledFrom i 
 unfolding spelledFrom keyFrom
 ends i weighed s e h = e ∙ rw (drop-of-length-le s h) (ap Key (omega arith))
 
--- The weight of the place after the i-th, and room for its digit.
+-- The weight of the place after the i-th.
 pub next-weight : (i w n : ℕ) → (i < n → w ≡ 11 ^ (15 - (i + 1))) → n ≤ 15 → i + 1 < n → w / 11 ≡ 11 ^ (15 - (i + 1 + 1))
 next-weight i w n e h l =
     let f : 15 - (i + 1) ≡ suc (15 - (i + 1 + 1)) = omega arith in
     rw (e (omega arith), f, pow-suc) (mul-div-cancel _ (lit< tt))
 
--- what is weighed and what the places from the i-th on can still weigh come to no more than the keys' end
-pub weighs : (i weighed w x : ℕ) → weighed + 11 ^ (15 - i) ≤ 11 ^ 15 → i < 15 → w ≡ 11 ^ (15 - (i + 1)) → x ≤ 10 → weighed + x * w + 11 ^ (15 - (i + 1)) ≤ 11 ^ 15
+-- Room for a digit: what is weighed and what the places from the i-th on can still weigh come to no more than the keys' end
+pub weighs :
+    (i weighed w x : ℕ)
+    → weighed + 11 ^ (15 - i) ≤ 11 ^ 15
+    → i < 15
+    → w ≡ 11 ^ (15 - (i + 1))
+    → x ≤ 10
+    → weighed + x * w + 11 ^ (15 - (i + 1)) ≤ 11 ^ 15
 weighs i weighed w x b h e l =
     let f : 15 - i ≡ suc (15 - (i + 1)) = omega arith in
-    let g : weighed + w * 11 ≤ 11 ^ 15 = rw (f, pow-suc, ← e) at b in
+    let g : weighed + w * 11 ≤ 11 ^ 15 = rw (f, pow-suc 11 (15 - (i + 1)), ← e) at b in
     rw (← e) (omega (arith, mul-le-mul-right w l, g))

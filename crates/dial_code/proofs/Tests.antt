@@ -1,18 +1,16 @@
--- Tests on numbers and what they show.
--- Assumes nothing.
-use mathlib.Core.Path.{_≡_, refl, ap, sym, _∙_}
-use mathlib.Core.Bool.{Bool, true, false, _&&_, not, true≢false, false≢true}
-use mathlib.Core.List.{List, [], _∷_}
-use Prim.Native.Nat.{ℕ, _+_, _≤_, _<_}
+-- Tests on numbers, and what they show. Assumes nothing.
+use mathlib.Core.Path.{_≡_, refl, ap, sym}
+use mathlib.Core.Bool.{Bool, true, false, _&&_, and-eq-true-iff}
+use Prim.Native.Nat.{ℕ, _<_}
 use native.Mathlib.Omega.{arith}
-use borrow.Author.Tests.{lt-ltb, le-ltb, eq-eqb, ne-eqb, ltb-true, ltb-false, eqb-true, eqb-false}
+use borrow.Author.Tests.{eq-eqb, ltb-true, ltb-false, eqb-true}
 use lib.Dec.{eqb, ltb}
 
 -- both of two tests hold where their conjunction does
 pub both : (a b : Bool) → (a && b) ≡ true → (a ≡ true) × (b ≡ true)
-both true b e = (refl, e)
-both false b e = absurd (false≢true e)
+both a b = and-eq-true-iff a b .0
 
+-- a conjunction, one of its tests known
 pub and-right-false : (a : Bool) {b : Bool} → b ≡ false → (a && b) ≡ false
 and-right-false true e = e
 and-right-false false e = refl
@@ -26,6 +24,10 @@ and-left-true b e = ap (λ (a : Bool). a && b) e
 pub and-right-true : (a : Bool) {b : Bool} → b ≡ true → (a && b) ≡ a
 and-right-true true e = e
 and-right-true false e = refl
+
+-- a number that is not 0
+pub positive : {n : ℕ} → (n ≡ 0 → ⊥) → 0 < n
+positive {n} h = omega (arith, h)
 
 -- how two numbers compare
 pub data Order (a b : ℕ) : Type 0 where

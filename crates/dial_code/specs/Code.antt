@@ -27,7 +27,14 @@ precedes (d ∷ ds) [] = false
 precedes (d ∷ ds) (e ∷ es) = cond (ltb d e) true (eqb d e && precedes ds es)
 
 codes :
-    isCode (1 ∷ []) ∷ isCode (2 ∷ 3 ∷ 4 ∷ []) ∷ isCode (4 ∷ 4 ∷ []) ∷ isCode [] ∷ isCode (0 ∷ 1 ∷ 2 ∷ []) ∷ isCode (2 ∷ 3 ∷ []) ∷ isCode (2 ∷ []) ∷ []
+    isCode (1 ∷ [])
+    ∷ isCode (2 ∷ 3 ∷ 4 ∷ [])
+    ∷ isCode (4 ∷ 4 ∷ [])
+    ∷ isCode []
+    ∷ isCode (0 ∷ 1 ∷ 2 ∷ [])
+    ∷ isCode (2 ∷ 3 ∷ [])
+    ∷ isCode (2 ∷ [])
+    ∷ []
     ≡ true ∷ true ∷ true ∷ false ∷ false ∷ false ∷ false ∷ []
 unfolding isCode
 codes = refl
@@ -46,6 +53,12 @@ code-keys :
 unfolding isCodeKey
 code-keys = refl
 
-order : precedes (1 ∷ []) (1 ∷ 0 ∷ []) ∷ precedes (1 ∷ 9 ∷ []) (2 ∷ []) ∷ precedes (2 ∷ []) (1 ∷ 9 ∷ []) ∷ precedes (3 ∷ []) (3 ∷ []) ∷ [] ≡ true ∷ true ∷ false ∷ false ∷ []
+order :
+    precedes (1 ∷ []) (1 ∷ 0 ∷ [])
+    ∷ precedes (1 ∷ 9 ∷ []) (2 ∷ [])
+    ∷ precedes (2 ∷ []) (1 ∷ 9 ∷ [])
+    ∷ precedes (3 ∷ []) (3 ∷ [])
+    ∷ []
+    ≡ true ∷ true ∷ false ∷ false ∷ []
 unfolding precedes
 order = refl

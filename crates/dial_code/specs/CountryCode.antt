@@ -88,17 +88,24 @@ unfolding country
 countries = refl
 
 -- the ends of each run, and the values beside them
-ends : map twoDigits (19 ∷ 20 ∷ 21 ∷ 26 ∷ 27 ∷ 28 ∷ 29 ∷ 30 ∷ 34 ∷ 35 ∷ 36 ∷ 37 ∷ 38 ∷ 39 ∷ 40 ∷ 41 ∷ 42 ∷ 43 ∷ 49 ∷ 50 ∷ 51 ∷ 58 ∷ 59 ∷ 60 ∷ 66 ∷ 67 ∷ [])
-    ≡ false ∷ true ∷ false ∷ false ∷ true ∷ false ∷ false ∷ true ∷ true ∷ false ∷ true ∷ false ∷ false ∷ true ∷ true ∷ true ∷ false ∷ true ∷ true ∷ false ∷ true ∷ true ∷ false ∷ true ∷ true ∷ false ∷ []
+low-ends : map twoDigits (19 ∷ 20 ∷ 21 ∷ 26 ∷ 27 ∷ 28 ∷ 29 ∷ 30 ∷ 34 ∷ 35 ∷ 36 ∷ 37 ∷ 38 ∷ [])
+    ≡ false ∷ true ∷ false ∷ false ∷ true ∷ false ∷ false ∷ true ∷ true ∷ false ∷ true ∷ false ∷ false ∷ []
 unfolding twoDigits
-ends = refl
+low-ends = refl
 
-more-ends : map twoDigits (80 ∷ 81 ∷ 82 ∷ 83 ∷ 84 ∷ 85 ∷ 86 ∷ 87 ∷ 89 ∷ 90 ∷ 95 ∷ 96 ∷ 97 ∷ 98 ∷ 99 ∷ [])
+middle-ends : map twoDigits (39 ∷ 40 ∷ 41 ∷ 42 ∷ 43 ∷ 49 ∷ 50 ∷ 51 ∷ 58 ∷ 59 ∷ 60 ∷ 66 ∷ 67 ∷ [])
+    ≡ true ∷ true ∷ true ∷ false ∷ true ∷ true ∷ false ∷ true ∷ true ∷ false ∷ true ∷ true ∷ false ∷ []
+unfolding twoDigits
+middle-ends = refl
+
+high-ends : map twoDigits (80 ∷ 81 ∷ 82 ∷ 83 ∷ 84 ∷ 85 ∷ 86 ∷ 87 ∷ 89 ∷ 90 ∷ 95 ∷ 96 ∷ 97 ∷ 98 ∷ 99 ∷ [])
     ≡ false ∷ true ∷ true ∷ false ∷ true ∷ false ∷ true ∷ false ∷ false ∷ true ∷ true ∷ false ∷ false ∷ true ∷ false ∷ []
 unfolding twoDigits
-more-ends = refl
+high-ends = refl
 
 -- from a count and a value, and from a key
-sent : countryOf 5 23480 ∷ countryOf 2 100 ∷ countryOfKey (key (4 ∷ 4 ∷ 2 ∷ [])) ∷ countryOfKey 0 ∷ [] ≡ Code 234 ∷ None ∷ Code 44 ∷ None ∷ []
+sent :
+    countryOf 5 23480 ∷ countryOf 2 100 ∷ countryOfKey (key (4 ∷ 4 ∷ 2 ∷ [])) ∷ countryOfKey 0 ∷ []
+    ≡ Code 234 ∷ None ∷ Code 44 ∷ None ∷ []
 unfolding countryOf countryOfKey key
 sent = refl

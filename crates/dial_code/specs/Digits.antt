@@ -2,7 +2,7 @@
 -- "Notice layout"), and a number as ASCII digits, one a byte ("Who can cause a refusal").
 use mathlib.Core.Path.{_≡_, refl}
 use mathlib.Core.Bool.{Bool, true, false, _&&_, not}
-use mathlib.Core.List.{List, [], _∷_, map}
+use mathlib.Core.List.{List, [], _∷_}
 use Prim.Native.Nat.{ℕ, zero, suc, _+_, _-_, _*_, _/_, _%_, _^_}
 use lib.ListN.{length}
 use lib.Dec.{eqb, leb, ltb}
@@ -49,7 +49,13 @@ abbrev pub digitOf : ℕ → ℕ
 digitOf b = b - 48
 
 -- leading zeros count as digits
-written : digits 5 23480 ∷ digits 3 7 ∷ digits 0 7 ∷ digits 15 999999999999999 ∷ [] ≡ (2 ∷ 3 ∷ 4 ∷ 8 ∷ 0 ∷ []) ∷ (0 ∷ 0 ∷ 7 ∷ []) ∷ [] ∷ (9 ∷ 9 ∷ 9 ∷ 9 ∷ 9 ∷ 9 ∷ 9 ∷ 9 ∷ 9 ∷ 9 ∷ 9 ∷ 9 ∷ 9 ∷ 9 ∷ 9 ∷ []) ∷ []
+written :
+    digits 5 23480 ∷ digits 3 7 ∷ digits 0 7 ∷ digits 15 999999999999999 ∷ []
+    ≡ (2 ∷ 3 ∷ 4 ∷ 8 ∷ 0 ∷ [])
+    ∷ (0 ∷ 0 ∷ 7 ∷ [])
+    ∷ []
+    ∷ (9 ∷ 9 ∷ 9 ∷ 9 ∷ 9 ∷ 9 ∷ 9 ∷ 9 ∷ 9 ∷ 9 ∷ 9 ∷ 9 ∷ 9 ∷ 9 ∷ 9 ∷ [])
+    ∷ []
 unfolding digits
 written = refl
 
@@ -59,13 +65,26 @@ values = refl
 
 -- counts 0, 1, 15 and 16; the last value of a count and one past it
 counts :
-    isWritten 0 0 ∷ isWritten 1 9 ∷ isWritten 1 10 ∷ isWritten 15 999999999999999 ∷ isWritten 15 1000000000000000 ∷ isWritten 16 0 ∷ []
+    isWritten 0 0
+    ∷ isWritten 1 9
+    ∷ isWritten 1 10
+    ∷ isWritten 15 999999999999999
+    ∷ isWritten 15 1000000000000000
+    ∷ isWritten 16 0
+    ∷ []
     ≡ false ∷ true ∷ false ∷ true ∷ false ∷ false ∷ []
 unfolding isWritten
 counts = refl
 
+-- nothing, a leading 0, 10, a digit that is none, fifteen digits and sixteen
 numbers :
-    isNumber [] ∷ isNumber (0 ∷ 1 ∷ []) ∷ isNumber (1 ∷ 0 ∷ []) ∷ isNumber (10 ∷ []) ∷ isNumber (digits 15 100000000000000) ∷ isNumber (digits 16 1000000000000000) ∷ []
+    isNumber []
+    ∷ isNumber (0 ∷ 1 ∷ [])
+    ∷ isNumber (1 ∷ 0 ∷ [])
+    ∷ isNumber (10 ∷ [])
+    ∷ isNumber (digits 15 100000000000000)
+    ∷ isNumber (digits 16 1000000000000000)
+    ∷ []
     ≡ false ∷ false ∷ true ∷ false ∷ true ∷ false ∷ []
 unfolding isNumber digits
 numbers = refl

@@ -1,6 +1,6 @@
 -- Keys (document 01, "Codes and countries").
 use mathlib.Core.Path.{_≡_, refl}
-use mathlib.Core.Bool.{Bool, true, false, cond, _&&_}
+use mathlib.Core.Bool.{true, cond, _&&_}
 use mathlib.Core.List.{List, [], _∷_, map}
 use Prim.Native.Nat.{ℕ, zero, suc, _+_, _-_, _*_, _/_, _%_, _^_}
 use lib.Dec.{eqb, ltb}
@@ -62,15 +62,26 @@ unfolding key digits
 last-key = refl
 
 -- 1 before 10 before 11 before 2
-ordered : ltb (key (1 ∷ [])) (key (1 ∷ 0 ∷ [])) ∷ ltb (key (1 ∷ 0 ∷ [])) (key (1 ∷ 1 ∷ [])) ∷ ltb (key (1 ∷ 1 ∷ [])) (key (2 ∷ [])) ∷ [] ≡ true ∷ true ∷ true ∷ []
+ordered :
+    ltb (key (1 ∷ [])) (key (1 ∷ 0 ∷ []))
+    ∷ ltb (key (1 ∷ 0 ∷ [])) (key (1 ∷ 1 ∷ []))
+    ∷ ltb (key (1 ∷ 1 ∷ [])) (key (2 ∷ []))
+    ∷ []
+    ≡ true ∷ true ∷ true ∷ []
 unfolding key
 ordered = refl
 
-back : digitsOfKey (key (2 ∷ 3 ∷ 4 ∷ 8 ∷ 0 ∷ [])) ∷ digitsOfKey 0 ∷ digitsOfKey keysEnd ∷ [] ≡ (2 ∷ 3 ∷ 4 ∷ 8 ∷ 0 ∷ []) ∷ [] ∷ [] ∷ []
+-- the digits of a key, of 0 and of the keys' end
+back :
+    digitsOfKey (key (2 ∷ 3 ∷ 4 ∷ 8 ∷ 0 ∷ [])) ∷ digitsOfKey 0 ∷ digitsOfKey keysEnd ∷ []
+    ≡ (2 ∷ 3 ∷ 4 ∷ 8 ∷ 0 ∷ []) ∷ [] ∷ [] ∷ []
 unfolding digitsOfKey key
 back = refl
 
-code-keys : codeKey 1 1 ∷ codeKey 0 0 ∷ codeKey 16 1 ∷ codeKey 2 100 ∷ codeKey 2 1 ∷ [] ≡ Key 759499667166482 ∷ Refused 4 ∷ Refused 4 ∷ Refused 4 ∷ Key (key (0 ∷ 1 ∷ [])) ∷ []
+-- code 1, a count of 0 and of 16, a value too large for its count, code 01
+code-keys :
+    codeKey 1 1 ∷ codeKey 0 0 ∷ codeKey 16 1 ∷ codeKey 2 100 ∷ codeKey 2 1 ∷ []
+    ≡ Key 759499667166482 ∷ Refused 4 ∷ Refused 4 ∷ Refused 4 ∷ Key (key (0 ∷ 1 ∷ [])) ∷ []
 unfolding codeKey
 code-keys = refl
 
@@ -87,6 +98,9 @@ number-keys :
 unfolding numberKey
 number-keys = refl
 
-prefixes : prefixKey (key (2 ∷ 3 ∷ 4 ∷ [])) 2 ∷ prefixKey (key (2 ∷ 3 ∷ 4 ∷ [])) 3 ∷ prefixKey (key (2 ∷ [])) 0 ∷ [] ≡ key (2 ∷ 3 ∷ []) ∷ key (2 ∷ 3 ∷ 4 ∷ []) ∷ 0 ∷ []
+-- the first two digits of 234, all three, none
+prefixes :
+    prefixKey (key (2 ∷ 3 ∷ 4 ∷ [])) 2 ∷ prefixKey (key (2 ∷ 3 ∷ 4 ∷ [])) 3 ∷ prefixKey (key (2 ∷ [])) 0 ∷ []
+    ≡ key (2 ∷ 3 ∷ []) ∷ key (2 ∷ 3 ∷ 4 ∷ []) ∷ 0 ∷ []
 unfolding prefixKey key
 prefixes = refl

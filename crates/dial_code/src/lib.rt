@@ -10,7 +10,7 @@ ghost use Rattle.dial_code.specs.Code.{isCodeKey};
 const MOST_DIGITS: u64 = 15;
 // Every key is below this, 11 to the power 15.
 const KEYS_END: u64 = 4_177_248_169_415_651;
-// The weight of a key's first place, 11 to the power 14, and of its third.
+// The weight of a key's first place, 11 to the power 14, and of its third, 11 to the power 12.
 const FIRST_PLACE: u64 = 379_749_833_583_241;
 
 const THIRD_PLACE: u64 = 3_138_428_376_721;
@@ -37,6 +37,7 @@ fn wide(x: u8) -> u64
     x as u64
 }
 
+// A power that fits a word.
 fn power(base: u64, n: u64) -> u64
     requires { ⌜ (0 < base) × (base ^ n < 2 ^ 64) ⌝ }
     ensures { λ r. ⌜ r ≡ base ^ n ⌝ }
@@ -118,6 +119,7 @@ pub fn prefix_key(key: u64, n: u64) -> u64
     key - key % power(11, MOST_DIGITS - n)
 }
 
+// Whether a value below 100 is a country code of two digits.
 fn is_two_digits(v: u64) -> bool
     requires { ⌜ v < 100 ⌝ }
     ensures { λ r. ⌜ r ≡ twoDigits v ⌝ }

@@ -1,24 +1,17 @@
-use mathlib.Core.Path.{_≡_, refl, ap, sym, _∙_}
-use mathlib.Core.Bool.{Bool, true, false}
-use mathlib.Core.List.{List, [], _∷_, _++_}
-use mathlib.Core.Logic.{⊎-elim}
-use Prim.Native.Nat.{ℕ, zero, suc, _+_, _-_, _*_, _/_, _%_, _≤_, _<_}
+-- code_key meets its contract. The loop's invariant: what is weighed and the key of the digits left are the code's key, and
+-- `weight` is that of the last place left. The measure is the number of digits left. Assumes nothing.
+use mathlib.Core.Path.{_≡_, ap, sym, _∙_}
+use Prim.Native.Nat.{_+_, _-_, _*_, _/_, _%_, _≤_, _<_, _^_}
 use native.Mathlib.Omega.{arith}
-use native.Mathlib.Numerals.{add-one, sub-one}
 use borrow.Author.Needs.{needs}
-use borrow.Author.Tests.{lt-ltb, le-ltb, le-leb, lt-leb, eq-eqb, ne-eqb}
-use lib.ListN.{length, getD, drop, take, set, length-set}
-use lib.Dec.{eqb, leb, ltb}
-use Prim.Native.Nat.{_^_}
 use Rattle.dial_code.specs.Digits.{digits}
 use Rattle.dial_code.specs.Key.{keyFrom}
 use Rattle.dial_code.specs.declared.Keyed.the-variants.{Key}
-use Rattle.dial_code.proofs.CountedKeys.{all-weighed, last-place, next-weight, weight-most, power-fits, below-end, no-count, many, large, sent}
+use Rattle.dial_code.proofs.Tests.{positive}
+use Rattle.dial_code.proofs.CountedKeys.{last-place, next-weight, weight-most, power-fits, sent-below, all-weighed}
+use Rattle.dial_code.proofs.CountedKeys.{no-count, many, large, sent}
 use Rattle.dial_code.proofs.code_key.Statement.{statement}
 use Rattle.dial_code.proofs.code_key.Tie as tie
-use Rattle.dial_code.proofs.code_key.Reads as reads
-use Rattle.dial_code.proofs.code_key.Lts as lts
-use Rattle.dial_code.proofs.power.Reads as power-reads
 
 abbrev Inv-loop : tie.InvT-loop
 Inv-loop count value weight₀ v₀ left₀ key₀ weight v left key =
@@ -26,9 +19,6 @@ Inv-loop count value weight₀ v₀ left₀ key₀ weight v left key =
 
 abbrev μ-loop : tie.MeasureT-loop
 μ-loop count value weight₀ v₀ left₀ key₀ weight v left key = left
-
-positive : {n : ℕ} → (n ≡ 0 → ⊥) → 0 < n
-positive {n} h = omega (arith, h)
 
 -- the last digit's part, and that the whole is below the keys' end
 place :
@@ -39,68 +29,58 @@ place :
     × (keyFrom 1 (digits (a .count) (a .value)) < 11 ^ 15)
 place c =
     let l = c .before .loop in
-    (last-place (l .left) (l .v) (l .weight) (c .loop-test .taken) (l .inv .1), below-end _ _ (c .before .before .before .before .before .if2 .left))
+    let p = c .before .before .before .before .before in
+    (last-place (l .left) (l .v) (l .weight) (c .loop-test .taken) (l .inv .1), sent-below _ _ (p .if2 .left))
 
--- src/lib.rt:58:9
 returns : tie.Need-returns Inv-loop μ-loop
 returns c = sym (no-count _ _ (c .if1 .taken))
 
--- src/lib.rt:61:9
 returns-2 : tie.Need-returns-2 Inv-loop μ-loop
 returns-2 c = sym (many _ _ (c .if2 .taken))
 
--- src/lib.rt:63:8
 power-requires : tie.Need-power-requires Inv-loop μ-loop
 power-requires c κs = (omega arith, power-fits 10 _ (omega arith) (omega arith) (c .if2 .left))
 
--- src/lib.rt:64:9
 returns-3 : tie.Need-returns-3 Inv-loop μ-loop
-returns-3 c = sym (large _ _ (positive (c .before .before .before .if1 .left)) (c .before .before .if2 .left) (rw (c .before .power .ensures) at (c .if3 .taken)))
+returns-3 c =
+    let p = c .before .before in
+    sym (large _ _ (positive (p .before .if1 .left)) (p .if2 .left) (rw (c .before .power .ensures) at (c .if3 .taken)))
 
--- src/lib.rt:66:9
 power-requires-2 : tie.Need-power-requires-2 Inv-loop μ-loop
 power-requires-2 c κs = (omega arith, power-fits 11 _ (omega arith) (omega arith) (omega arith))
 
--- src/lib.rt:70:5
 loop-holds : tie.Need-loop-holds Inv-loop μ-loop
 loop-holds c = (omega arith, c .power2 .ensures, c .before .before .before .if2 .left)
 
--- src/lib.rt:71:17
 add-key : tie.Need-add-key Inv-loop μ-loop
 add-key c = search needs
 
--- src/lib.rt:71:16
 mul-key : tie.Need-mul-key Inv-loop μ-loop
 mul-key c = record { fits = omega (arith, place c .0, place c .1) }
 
--- src/lib.rt:71:9
 add-key-2 : tie.Need-add-key-2 Inv-loop μ-loop
 add-key-2 c = record { fits = omega (arith, place c .0, place c .1) }
 
--- src/lib.rt:72:9
 mul-weight : tie.Need-mul-weight Inv-loop μ-loop
 mul-weight c = record { fits = omega (arith, weight-most _ _ (c .loop-test .taken) (c .before .loop .inv .1)) }
 
--- src/lib.rt:74:9
 sub-left : tie.Need-sub-left Inv-loop μ-loop
 sub-left c = search needs
 
--- src/lib.rt:70:5
 loop-less : tie.Need-loop-less Inv-loop μ-loop
 loop-less c = search needs
 
--- src/lib.rt:70:5
 loop-again : tie.Need-loop-again Inv-loop μ-loop
 loop-again c =
     let l = c .before .loop in
     (omega (arith, place c .0), next-weight _ _ (c .loop-test .taken) (l .inv .2) (l .inv .1), omega arith)
 
--- src/lib.rt:54:1
 returns-4 : tie.Need-returns-4 Inv-loop μ-loop
 returns-4 c =
     let p = c .before .before .before in
+    let q = p .before .before in
     ap Key (all-weighed _ _ _ (omega arith) (c .before .loop .inv .0))
-    ∙ sym (sent _ _ (positive (p .before .before .before .if1 .left)) (p .before .before .if2 .left) (rw (p .before .power .ensures) at (p .if3 .left)))
+    ∙ sym (sent _ _ (positive (q .before .if1 .left)) (q .if2 .left) (rw (p .before .power .ensures) at (p .if3 .left)))
 
 pub code-key-spec : {M : Type 1} → statement M
 code-key-spec =

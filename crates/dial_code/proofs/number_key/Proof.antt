@@ -1,23 +1,18 @@
-use mathlib.Core.Path.{_≡_, refl, ap, sym, _∙_}
-use mathlib.Core.Bool.{Bool, true, false}
-use mathlib.Core.List.{List, [], _∷_, _++_}
-use mathlib.Core.Logic.{⊎-elim}
-use Prim.Native.Nat.{ℕ, zero, suc, _+_, _-_, _*_, _/_, _≤_, _<_}
+-- number_key meets its contract. The loop's invariant: the rule from byte `i` on, with what the bytes before weigh, is the rule
+-- of the whole, and `weight` is that of the next place. The measure is the number of bytes left. Assumes nothing.
+use mathlib.Core.Path.{_≡_, refl, sym}
+use Prim.Native.Nat.{_+_, _-_, _*_, _≤_, _<_, _^_}
 use native.Mathlib.Omega.{arith}
-use native.Mathlib.Numerals.{add-one, sub-one}
 use borrow.Author.Needs.{needs}
-use borrow.Author.Tests.{lt-ltb, le-ltb, le-leb, lt-leb, eq-eqb, ne-eqb}
-use lib.ListN.{length, getD, drop, take, set, length-set}
-use lib.Dec.{eqb, leb, ltb}
-use Prim.Native.Nat.{_^_}
+use borrow.Author.Tests.{lt-leb}
+use lib.ListN.{length}
+use lib.Dec.{leb}
 use Rattle.dial_code.specs.Key.{numberKey}
 use Rattle.dial_code.proofs.Tests.{and-left-false, and-right-false}
-use Rattle.dial_code.proofs.Spelling.{spelledFrom, empty, too-long, leading-zero, starts, turn, not-ascii, ends, next-weight, weighs}
+use Rattle.dial_code.proofs.Spelling.{spelledFrom, empty, too-long, leading-zero, starts}
+use Rattle.dial_code.proofs.Spelling.{turn, not-ascii, ends, next-weight, weighs}
 use Rattle.dial_code.proofs.number_key.Statement.{statement}
 use Rattle.dial_code.proofs.number_key.Tie as tie
-use Rattle.dial_code.proofs.number_key.Reads as reads
-use Rattle.dial_code.proofs.number_key.Lts as lts
-use Rattle.dial_code.proofs.wide.Reads as wide-reads
 
 abbrev Inv-loop : tie.InvT-loop
 Inv-loop number weight₀ key₀ i₀ weight key i =
@@ -36,82 +31,82 @@ room :
     → let l = c .before .before .before .before .before .loop in
     l .key + (c .before .before .wide .result - 47) * l .weight + 11 ^ (15 - (l .i + 1)) ≤ 11 ^ 15
 room c =
-    let l = c .before .before .before .before .before .loop in
-    weighs (l .i) (l .key) (l .weight) (c .before .before .wide .result - 47) (l .inv .4) (omega arith) (l .inv .3 (c .before .before .before .before .loop-test .taken)) (omega arith)
+    let p = c .before .before .before .before in
+    let l = p .before .loop in
+    weighs (l .i) (l .key) (l .weight) (c .before .before .wide .result - 47)
+    (l .inv .4)
+    (omega arith)
+    (l .inv .3 (p .loop-test .taken))
+    (omega arith)
 
--- src/lib.rt:85:9
 returns : tie.Need-returns Inv-loop μ-loop
 returns c = sym (empty _ (c .if1 .taken))
 
--- src/lib.rt:88:9
 returns-2 : tie.Need-returns-2 Inv-loop μ-loop
 returns-2 c = sym (too-long _ (c .if2 .taken))
 
--- src/lib.rt:90:8
 shared-slice-read-if3 : tie.Need-shared-slice-read-if3 Inv-loop μ-loop
 shared-slice-read-if3 c = search needs
 
--- src/lib.rt:91:9
 returns-3 : tie.Need-returns-3 Inv-loop μ-loop
 returns-3 c = sym (leading-zero _ (omega arith) (c .if3 .taken))
 
--- src/lib.rt:96:5
 loop-holds : tie.Need-loop-holds Inv-loop μ-loop
 loop-holds c = (starts _ (omega arith) (omega arith) (c .if3 .left), omega arith, omega arith, λ h. refl, omega arith)
 
--- src/lib.rt:97:22
 shared-slice-read-wide : tie.Need-shared-slice-read-wide Inv-loop μ-loop
 shared-slice-read-wide c = search needs
 
--- src/lib.rt:97:13
 wide-requires : tie.Need-wide-requires Inv-loop μ-loop
 wide-requires c κs = search needs
 
--- src/lib.rt:99:13
 returns-4 : tie.Need-returns-4 Inv-loop μ-loop
 returns-4 c =
     let p = c .before in
-    sym (not-ascii _ _ _ _ (p .before .before .before .loop .inv .0) (p .before .before .loop-test .taken) (p .wide .ensures .0) (and-left-false _ (lt-leb 48 _ (c .if4 .taken))))
+    sym
+    (not-ascii _ _ _ _
+    (p .before .before .before .loop .inv .0)
+    (p .before .before .loop-test .taken)
+    (p .wide .ensures .0)
+    (and-left-false _ (lt-leb 48 _ (c .if4 .taken))))
 
--- src/lib.rt:102:13
 returns-5 : tie.Need-returns-5 Inv-loop μ-loop
 returns-5 c =
     let p = c .before .before in
-    sym (not-ascii _ _ _ _ (p .before .before .before .loop .inv .0) (p .before .before .loop-test .taken) (p .wide .ensures .0) (and-right-false (leb 48 (p .wide .result)) (lt-leb _ 57 (c .if5 .taken))))
+    sym
+    (not-ascii _ _ _ _
+    (p .before .before .before .loop .inv .0)
+    (p .before .before .loop-test .taken)
+    (p .wide .ensures .0)
+    (and-right-false (leb 48 (p .wide .result)) (lt-leb _ 57 (c .if5 .taken))))
 
--- src/lib.rt:104:17
 sub-key : tie.Need-sub-key Inv-loop μ-loop
 sub-key c = search needs
 
--- src/lib.rt:104:16
 mul-key : tie.Need-mul-key Inv-loop μ-loop
 mul-key c = record { fits = omega (arith, room c) }
 
--- src/lib.rt:104:9
 add-key : tie.Need-add-key Inv-loop μ-loop
 add-key c = record { fits = omega (arith, room c) }
 
--- src/lib.rt:106:9
 add-i : tie.Need-add-i Inv-loop μ-loop
 add-i c = search needs
 
--- src/lib.rt:96:5
 loop-less : tie.Need-loop-less Inv-loop μ-loop
 loop-less c = search needs
 
--- src/lib.rt:96:5
 loop-again : tie.Need-loop-again Inv-loop μ-loop
 loop-again c =
     let p = c .before .before in
-    let l = p .before .before .before .loop in (
-      turn _ _ _ _ _ (l .inv .0) (p .before .before .loop-test .taken) (l .inv .3 (p .before .before .loop-test .taken)) (p .wide .ensures .0) (c .before .if4 .left) (c .if5 .left),
+    let l = p .before .before .before .loop in
+    let h = p .before .before .loop-test .taken in (
+      turn _ _ _ _ _ (l .inv .0) h (l .inv .3 h) (p .wide .ensures .0) (c .before .if4 .left) (c .if5 .left),
       omega arith,
       omega arith,
       next-weight _ _ _ (l .inv .3) (l .inv .2),
       room c,
     )
 
--- src/lib.rt:81:1
 returns-6 : tie.Need-returns-6 Inv-loop μ-loop
 returns-6 c = sym (ends _ _ _ (c .before .loop .inv .0) (c .loop-test .left))
 

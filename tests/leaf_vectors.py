@@ -1,0 +1,444 @@
+"""The records that crates/leaf_vectors runs, and what it must print: edge cases of each function, then random ones.
+
+    python3 tests/leaf_vectors.py            write crates/leaf_vectors/stdin and crates/leaf_vectors/stdout
+    python3 tests/leaf_vectors.py --check    say whether they are what this file generates; exit 1 if not
+
+The expected answers come from reference/rate_book.py; crates/leaf_vectors/src/main.rt has the layout of a record. The same
+records are made on every run.
+"""
+
+import random
+import sys
+from pathlib import Path
+
+ROOT = Path(__file__).resolve().parent.parent
+sys.path.insert(0, str(ROOT / "tests" / "reference"))
+
+import rate_book as book  # noqa: E402
+
+CRATE = ROOT / "crates" / "leaf_vectors"
+MOST_RECORDS = 2_048
+RECORD_BYTES = 32
+RAW_BYTES = 22
+ROOM = 12
+PREFILL = 0xAA
+END = 2**64
+KEYS_END = 11**15
+
+
+# Records. Each maker gives the record and the numbers of its line.
+
+
+def record(which, length=0, raw=b"", a=None, b=None, c=None):
+    """A record: the function, a length, raw bytes from byte 2 on, and numbers at bytes 8, 16 and 24."""
+    made = bytearray(RECORD_BYTES)
+    made[0] = which
+    made[1] = length
+    made[2 : 2 + len(raw)] = raw
+    for at, number in ((8, a), (16, b), (24, c)):
+        if number is not None:
+            made[at : at + 8] = number.to_bytes(8, "little")
+    assert len(raw) <= RAW_BYTES and len(made) == RECORD_BYTES
+    return bytes(made)
+
+
+def answer(call, *arguments):
+    """What a reference function gives: case 0 and its values, or case 1 and the refusal."""
+    try:
+        given = call(*arguments)
+    except book.Refused as refused:
+        return [1, refused.number]
+    return [0, *given] if isinstance(given, tuple) else [0, given]
+
+
+def read_number(data, at, beyond=b""):
+    """Bytes beyond the slice are not to be read."""
+    return record(1, length=len(data), raw=data + beyond, c=at), answer(book.read_varint, data, at)
+
+
+def number_size(number):
+    """0 where the number has no encoding."""
+    return record(2, a=number), [book.varint_size(number) if number < 2**63 else 0]
+
+
+def write_number(number, length, at):
+    """The answer (up to a position, no room, too large), then the whole room, of which `length` bytes are lent."""
+    room = bytearray([PREFILL] * ROOM)
+    if number >= 2**63:
+        told = [2]
+    else:
+        written = book.write_varint(number)
+        end = at + len(written)
+        if end <= min(length, ROOM):
+            room[at:end] = written
+            told = [0, end]
+        else:
+            told = [1]
+    return record(3, length=length, a=number, b=at), told + list(room)
+
+
+def code_key(count, value):
+    return record(4, a=count, b=value), answer(lambda: book.key(book.code_digits(count, value)))
+
+
+def number_key(number, beyond=b""):
+    return record(5, length=len(number), raw=number + beyond), answer(lambda: book.key(book.number_digits(number)))
+
+
+def prefix_key(word, n):
+    """Of a word that is no key, document 01 says nothing: what is left of it when the places after n are emptied."""
+    digits = book.digits_of_key(word)
+    if digits is not None:
+        prefix = book.prefix_key(digits, n)
+    else:
+        prefix = word - word % 11 ** max(0, 15 - n)
+    return record(6, a=word, b=n), [prefix]
+
+
+def country_case(digits):
+    code = book.country(digits)
+    return [1] if code is None else [0, code]
+
+
+def country_of_key(word):
+    """Of a word that is no key, document 01 says nothing: the country of its digits before the first empty place."""
+    digits = book.digits_of_key(word)
+    if digits is None and word < KEYS_END:
+        places = book.places_of_word(word)
+        digits = "".join(str(place - 1) for place in places[: places.index(0)])
+    return record(7, a=word), country_case(digits or "")
+
+
+def country_of(count, value):
+    try:
+        told = country_case(book.code_digits(count, value))
+    except book.Refused:
+        told = [1]
+    return record(8, a=count, b=value), told
+
+
+def is_code_key(word):
+    return record(9, a=word), [int(book.is_code_key(word))]
+
+
+def rate_new(mantissa, decimals):
+    try:
+        rate = book.rate(mantissa, decimals)
+        told = [1] if rate == book.BLOCKED else [0, rate]
+    except book.Refused:
+        told = [2]
+    return record(10, a=mantissa, b=decimals), told
+
+
+def offer_record(which, offer, b=None):
+    if offer == book.CLOSED:
+        return record(which, raw=bytes([0]), b=b)
+    if offer == book.BLOCKED:
+        return record(which, raw=bytes([1]), b=b)
+    return record(which, raw=bytes([2, offer.first, offer.next]), a=offer.rate, b=b)
+
+
+def offer_word(offer):
+    return offer_record(11, offer), [book.offer_word(offer)]
+
+
+def word_offer(word):
+    offer = book.word_offer(word)
+    if offer is None:
+        told = [1]
+    elif offer == book.CLOSED:
+        told = [0, 0]
+    elif offer == book.BLOCKED:
+        told = [0, 1]
+    else:
+        told = [0, 2, *offer]
+    return record(12, a=word), told
+
+
+def day(number):
+    return record(13, a=number), [int(book.is_day(number)), int(book.is_received_day(number))]
+
+
+def moment(number):
+    return record(14, a=number), [int(book.is_moment(number)), book.day_of(number)]
+
+
+def charge(offer, duration):
+    """Steps of 0 seconds never cover a duration, and document 01 has none: the first increment alone is charged."""
+    told = answer(book.charge, book.Open(offer.rate, offer.first, 1) if unsteppable(offer) else offer, duration)
+    if unsteppable(offer) and told[0] == 0 and duration > offer.first:
+        told = [0, offer.first, (offer.rate * offer.first + 30) // 60]
+    return offer_record(15, offer, b=duration), told
+
+
+def unsteppable(offer):
+    return isinstance(offer, book.Open) and offer.next == 0
+
+
+def constants():
+    return record(16), [book.LAST_DAY, book.LAST_RECEIVED_DAY, book.END_OF_MOMENTS, 0, book.DEAREST]
+
+
+def no_function(which):
+    return record(which), []
+
+
+# Edge cases.
+
+P1_NOTICE = bytes.fromhex("03 64 01 05 B8 B7 01 02 02 09 01 01 00")
+P_CODES = ["23480", "234806", "2348", "91", "79", "7903", "1", "7", "20", "44", "2", "23", "234"]
+P_NUMBERS = ["234806121212", "7903797979"]
+LARGE = [2**63 - 1, 2**63, 2**63 + 1, END - 2, END - 1]
+
+
+def varint_edges():
+    for data in ["AC 02", "80 00", "", "00", "01", "7F", "80", "80 80", "80 01", "81 00", "FF 7F", "80 80 00", "80 80 01"]:
+        yield read_number(bytes.fromhex(data), 0)
+    for count in range(1, 12):
+        yield read_number(b"\x80" * count, 0)
+        yield read_number(b"\xff" * count, 0, beyond=b"\x01")
+        yield read_number(b"\x80" * count + b"\x00", 0)
+        yield read_number(b"\xff" * count + b"\x7f", 0)
+    for groups in range(1, 10):
+        yield read_number(book.write_varint(128 ** (groups - 1)), 0)
+        yield read_number(b"\x05" + book.write_varint(128**groups - 1) + b"\x80", 1)
+    for at in range(len(P1_NOTICE) + 2):
+        yield read_number(P1_NOTICE, at)
+    for at in [0, 13, 14, 21, 22, 23, *LARGE]:
+        yield read_number(b"\x80" * 21 + b"\x09", at)
+    numbers = [0, 1, 300, *(128**k - 1 for k in range(1, 10)), *(128**k for k in range(1, 9)), *LARGE]
+    for number in numbers:
+        yield number_size(number)
+    for number in numbers:
+        yield write_number(number, ROOM, 1)
+    for size in range(1, 10):
+        number = 128**size - 1
+        yield write_number(number, size, 0)
+        yield write_number(number, size - 1, 0)
+        yield write_number(number, ROOM, ROOM - size)
+        yield write_number(number, ROOM, ROOM - size + 1)
+    for length, at in [(0, 0), (0, 1), (1, 1), (12, 12), (12, 13), (255, 11), (255, 12), *((5, at) for at in LARGE)]:
+        yield write_number(0, length, at)
+        yield write_number(2**63, length, at)
+
+
+def dial_code_edges():
+    for count in range(0, 17):
+        for value in sorted({0, 10**count // 10, 10**count - 1, 10**count}):
+            yield code_key(count, value)
+    for count, value in [(1, 1), (1, 9), (17, 1), (255, 1), (END - 1, 1), (END - 1, END - 1), (15, END - 1), (1, 2**63)]:
+        yield code_key(count, value)
+        yield country_of(count, value)
+    for code in P_CODES:
+        yield code_key(len(code), int(code))
+        yield is_code_key(book.key(code))
+    for text in [*P_CODES, *P_NUMBERS, "", "0", "01", "9", "10", "1234567890", "1" * 15, "9" * 15, "9" * 16, "1" * 22, "0" * 15]:
+        yield number_key(text.encode())
+    for number in [b"/", b":", b"+44", b" 1", b"1 ", b"1/", b"1:", b"\x00", b"\xff", b"\xb1", b"1\x00", b"a", b"1" * 14 + b"/", b"1" * 14 + b":", b"1" * 15 + b"x"]:
+        yield number_key(number)
+    yield number_key(b"1" * 15, beyond=b"1")
+    yield number_key(b"44", beyond=b"x")
+    gaps = list(gapped_keys())
+    whole = book.key("234806121212345")
+    for n in [*range(0, 18), 255, END - 1]:
+        yield prefix_key(whole, n)
+        yield prefix_key(KEYS_END - 1, n)
+    for word in [0, book.key("1"), book.key("44"), gaps[3], KEYS_END, 2**63, END - 1]:
+        for n in [0, 1, 2, 3, 14, 15, 16]:
+            yield prefix_key(word, n)
+    for word in first_places():
+        yield country_of_key(word)
+        yield is_code_key(word)
+    for word in [*gaps, *words_about_keys()]:
+        yield country_of_key(word)
+        yield is_code_key(word)
+    for two in range(100):
+        yield country_of(2, two)
+        yield country_of(3, two * 10 + two % 10)
+    for one in range(10):
+        yield country_of(1, one)
+        yield country_of(15, one * 10**14)
+
+
+def first_places():
+    """Words of three places: every first and second place, the empty one too, with an empty third place and with a digit there."""
+    for first in range(11):
+        for second in range(11):
+            yield first * 11**14 + second * 11**13
+            yield first * 11**14 + second * 11**13 + (1 + (first * second) % 10) * 11**12
+
+
+def gapped_keys():
+    """A key of fifteen digits with one place emptied, for each place."""
+    digits = "234806121212345"
+    for place in range(15):
+        yield book.key(digits) - (int(digits[place]) + 1) * 11 ** (14 - place)
+
+
+def words_about_keys():
+    first = 11**14
+    yield from [0, 1, first - 1, first, first + 1, 2 * first - 1, 2 * first, 2 * first + 1, 2 * first + 11, 3 * first]
+    yield from [book.key("1" + "0" * 14), book.key("12") + 1, book.key("999") + 11**11 - 1, book.key("999") + 11**11]
+    yield from [book.key("9" * 15), KEYS_END, KEYS_END + 1, 2 * KEYS_END, KEYS_END + book.key("44"), *LARGE]
+    yield from (book.key("9" * count) for count in range(1, 15))
+    yield from (book.key("0" + code) for code in ["", "1", "44", "234", "9" * 14])
+
+
+def rate_edges():
+    for mantissa, decimals in [(945046784, 9), (9990000004, 9), (9990000005, 9), (9, 2), (13, 2), (8, 2), (1, 2), (5, 3)]:
+        yield rate_new(mantissa, decimals)
+    for decimals in range(13):
+        dearest = book.DEAREST * 10**decimals // 10**8
+        half = 5 * 10**decimals // 10**9
+        edges = {0, 1, half - 1, half, 10**decimals // 10**8 + half, dearest + half - 1, dearest + half, dearest, dearest + 1}
+        edges |= {10**10, 10**10 + 1}
+        for mantissa in sorted(edges):
+            if mantissa >= 0:
+                yield rate_new(mantissa, decimals)
+    for mantissa in [0, 1, 10**10, 10**10 + 1, *LARGE]:
+        for decimals in [8, 12, 13, END - 1]:
+            yield rate_new(mantissa, decimals)
+    offers = [
+        book.CLOSED, book.BLOCKED, book.Open(0, 1, 1), book.Open(9_000_000, 1, 1), book.Open(13_000_000, 30, 6),
+        book.Open(1, 255, 1), book.Open(1, 1, 255), book.Open(book.DEAREST, 1, 1), book.Open(book.DEAREST, 255, 255),
+        book.Open(book.DEAREST, 60, 60),
+    ]
+    beyond = [book.Open(0, 0, 0), book.Open(7, 0, 6), book.Open(7, 30, 0), book.Open(book.DEAREST + 1, 1, 1), book.Open(2**32 - 1, 255, 255)]
+    for offer in offers + beyond:
+        yield offer_word(offer)
+        yield word_offer(book.offer_word(offer))
+    dearest = book.offer_word(book.Open(book.DEAREST, 255, 255))
+    for word in [0, 1, 2, 3, 255, 256, 257, 258, 259, 260, 513, 514, 515, 65_536, 65_537, 65_538, 65_794, 65_795, 65_796]:
+        yield word_offer(word)
+    for word in [dearest - 1, dearest, dearest + 1, dearest + 2, dearest + 258, dearest + 259, 2**48 + 259, 2**63 + 259, *LARGE]:
+        yield word_offer(word)
+    for number in [0, 1, 100, 59_999, 60_000, 60_001, 64_999, 65_000, 65_001, 65_535, 65_536, *LARGE]:
+        yield day(number)
+        yield moment(number)
+    for about in [86_400, 86_400 * 99, 86_400 * 60_000, 86_400 * 65_000, book.END_OF_MOMENTS, 2**32]:
+        for number in [about - 1, about, about + 1]:
+            yield moment(number)
+    for offer in offers + beyond:
+        first, following = (offer.first, offer.next) if isinstance(offer, book.Open) else (1, 1)
+        about = {0, 1, first, first + 1, first + following, first + following + 1, 604_799, 604_800, 604_801, 2**63, END - 1}
+        for duration in sorted(about):
+            yield charge(offer, duration)
+    p9 = 13_000_000
+    for offer, duration in [(book.Open(p9, 1, 1), 61), (book.Open(p9, 60, 60), 61), (book.Open(p9, 30, 6), 31)]:
+        yield charge(offer, duration)
+    for duration in [29, 30, 31, 89, 90, 91]:
+        yield charge(book.Open(1, 1, 1), duration)
+
+
+def edges():
+    yield constants()
+    for which in [0, 17, 255]:
+        yield no_function(which)
+    yield from varint_edges()
+    yield from dial_code_edges()
+    yield from rate_edges()
+
+
+# Random records.
+
+
+class Chance:
+    """Random choices, the same on every run."""
+
+    def __init__(self, seed):
+        self.bits = random.Random(seed).getrandbits
+
+    def below(self, end):
+        return self.bits(64) % end
+
+    def number(self):
+        """A number of any size below 2^64."""
+        return self.bits(64) >> self.below(64)
+
+    def digits(self, most=15):
+        """A digit string of 1 to `most` digits, now and then with a first digit 0."""
+        return "".join(str(self.below(10)) for _ in range(1 + self.below(most)))
+
+    def word(self):
+        """A key, a key with one place changed, a word of fifteen places, or any number."""
+        kind = self.below(4)
+        if kind == 0:
+            return book.key(self.digits())
+        if kind == 1:
+            return (book.key(self.digits()) + self.below(11) * 11 ** self.below(15)) % KEYS_END
+        return self.number() % KEYS_END if kind == 2 else self.number()
+
+    def offer(self):
+        kind = self.below(8)
+        if kind < 2:
+            return [book.CLOSED, book.BLOCKED][kind]
+        return book.Open(self.below(book.DEAREST + 1), 1 + self.below(255), 1 + self.below(255))
+
+    def data(self):
+        """Bytes in which numbers of some groups are likely."""
+        return bytes(self.below(128) + (128 if self.below(4) else 0) for _ in range(self.below(RAW_BYTES + 1)))
+
+    def dialled(self):
+        """ASCII digits, now and then with another byte among them."""
+        number = bytearray(self.digits(most=17).encode())
+        if self.below(4) == 0:
+            number[self.below(len(number))] = self.below(256)
+        return bytes(number)
+
+
+def random_records(chance):
+    while True:
+        yield read_number(chance.data(), chance.below(12))
+        written = book.write_varint(chance.number() >> 1)
+        yield read_number(chance.data()[:13] + written, chance.below(14))
+        yield number_size(chance.number())
+        yield write_number(chance.number() >> 1, chance.below(14), chance.below(8))
+        count = 1 + chance.below(15)
+        yield code_key(count, chance.below(10**count))
+        yield code_key(chance.below(20), chance.number())
+        yield number_key(chance.dialled())
+        yield prefix_key(book.key(chance.digits()), chance.below(17))
+        yield prefix_key(chance.word(), chance.below(17))
+        yield country_of_key(chance.word())
+        yield country_of(count, chance.below(10**count))
+        yield is_code_key(chance.word())
+        yield rate_new(chance.below(10**10 + 1), chance.below(13))
+        yield rate_new(chance.number(), chance.below(16))
+        yield offer_word(chance.offer())
+        yield word_offer(book.offer_word(chance.offer()) + chance.below(3) * chance.below(END >> 8))
+        yield day(chance.below(70_000))
+        yield moment(chance.below(book.END_OF_MOMENTS))
+        yield charge(chance.offer(), chance.below(604_801))
+        yield charge(chance.offer(), chance.number())
+
+
+def vectors():
+    """The input and the expected output."""
+    records = list(edges())
+    assert len(records) < MOST_RECORDS, len(records)
+    for made in random_records(Chance(1)):
+        if len(records) == MOST_RECORDS:
+            break
+        records.append(made)
+    stdin = b"".join(made for made, _ in records)
+    stdout = "".join(" ".join(str(n) for n in [made[0], *told]) + "\n" for made, told in records)
+    return stdin, stdout.encode()
+
+
+def main():
+    files = dict(zip([CRATE / "stdin", CRATE / "stdout"], vectors()))
+    if sys.argv[1:] == ["--check"]:
+        stale = [path for path, content in files.items() if not path.exists() or path.read_bytes() != content]
+        for path in stale:
+            print(f"{path.relative_to(ROOT)} is not what tests/leaf_vectors.py generates")
+        return 1 if stale else 0
+    if sys.argv[1:]:
+        print(__doc__)
+        return 2
+    for path, content in files.items():
+        path.write_bytes(content)
+    return 0
+
+
+if __name__ == "__main__":
+    sys.exit(main())
