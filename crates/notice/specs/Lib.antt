@@ -1,4 +1,0 @@
--- The rules of price notices: read, checked and written.
-pub mod Field
-pub mod LineRule
-pub mod NoticeRule
