@@ -7,17 +7,16 @@ The expected answers come from reference/rate_book.py. crates/leaf_vectors/src/m
 run makes the same records.
 """
 
-import random
 import sys
-from pathlib import Path
 
-ROOT = Path(__file__).resolve().parent.parent
-sys.path.insert(0, str(ROOT / "tests" / "reference"))
 sys.dont_write_bytecode = True
+
+import vectors  # noqa: E402
+
+sys.path.insert(0, str(vectors.ROOT / "tests" / "reference"))
 
 import rate_book as book  # noqa: E402
 
-CRATE = ROOT / "crates" / "leaf_vectors"
 MOST_RECORDS = 2_048
 RECORD_BYTES = 32
 RAW_BYTES = 22
@@ -377,22 +376,8 @@ def edges():
 # Random records.
 
 
-class Chance:
-    """Random choices, the same on every run."""
-
-    def __init__(self, seed):
-        self.bits = random.Random(seed).getrandbits
-
-    def below(self, end):
-        return self.bits(64) % end
-
-    def number(self):
-        """A number of any size below 2^64."""
-        return self.bits(64) >> self.below(64)
-
-    def digits(self, most=15):
-        """A digit string of 1 to `most` digits, now and then with a first digit 0."""
-        return "".join(str(self.below(10)) for _ in range(1 + self.below(most)))
+class Chance(vectors.Chance):
+    """Random arguments, the same on every run."""
 
     def word(self):
         """A key, a key with one place changed, a word of fifteen places, or any number."""
@@ -447,7 +432,7 @@ def random_records(chance):
         yield charge(chance.offer(), chance.number())
 
 
-def vectors():
+def make():
     """The input and the expected output."""
     records = list(edges())
     assert len(records) < MOST_RECORDS, len(records)
@@ -460,20 +445,5 @@ def vectors():
     return stdin, stdout.encode()
 
 
-def main():
-    files = dict(zip([CRATE / "stdin", CRATE / "stdout"], vectors()))
-    if sys.argv[1:] == ["--check"]:
-        stale = [path for path, content in files.items() if not path.exists() or path.read_bytes() != content]
-        for path in stale:
-            print(f"{path.relative_to(ROOT)} is not what tests/leaf_vectors.py generates")
-        return 1 if stale else 0
-    if sys.argv[1:]:
-        print(__doc__)
-        return 2
-    for path, content in files.items():
-        path.write_bytes(content)
-    return 0
-
-
 if __name__ == "__main__":
-    sys.exit(main())
+    sys.exit(vectors.run("tests/leaf_vectors.py", "leaf_vectors", make, __doc__))

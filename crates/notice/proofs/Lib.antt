@@ -1,0 +1,11 @@
+-- The laws of price notices.
+pub mod Links
+pub mod Codes
+pub mod Told
+pub mod LineLaws
+pub mod HeaderLaws
+pub mod LinesLaws
+pub mod ValidLines
+pub mod NoticeLaws
+pub mod Scanning
+pub mod Checking

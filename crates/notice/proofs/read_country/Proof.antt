@@ -1,0 +1,72 @@
+-- `notice::read_country` meets its contract: a count that is read is 1 to 15, which the value field asks for. Assumes nothing.
+use mathlib.Core.Path.{_≡_, sym, _∙_}
+use borrow.Author.Needs.{needs}
+use Rattle.notice.proofs.Links.{on-value, on-refused}
+use Rattle.varint.specs.declared.Number.the-variants.{Value}
+use Rattle.notice.specs.Field.{readRanged}
+use Rattle.notice.specs.NoticeRule.{readCountry}
+use Rattle.notice.proofs.Told.{ranged-facts}
+use Rattle.notice.proofs.read_country.Statement.{statement}
+use Rattle.notice.proofs.read_country.Tie as tie
+
+count-read : (c : tie.After-count) →
+    let a = c .before .before .before .before .args in
+    readRanged (a .s .now) (a .at) 1 15 ≡ Value (c .count .given .0 .0) (c .count .given .0 .1 .0)
+count-read c = sym (c .before .before .read-ranged .ensures) ∙ c .count .given .1
+
+read-ranged-requires : tie.Need-read-ranged-requires
+read-ranged-requires c κs = search needs
+
+enum-known-e : tie.Need-enum-known-e
+enum-known-e c = search needs
+
+enum-known-count : tie.Need-enum-known-count
+enum-known-count c = search needs
+
+read-number-requires : tie.Need-read-number-requires
+read-number-requires c κs = search needs
+
+enum-known-e-2 : tie.Need-enum-known-e-2
+enum-known-e-2 c = search needs
+
+enum-known-value : tie.Need-enum-known-value
+enum-known-value c = search needs
+
+country-field-requires : tie.Need-country-field-requires
+country-field-requires c κs =
+    let r = ranged-facts _ _ _ _ _ _ (count-read (c .before .before .before .before .before)) in
+    (r .from, r .to)
+
+returns : tie.Need-returns
+unfolding readCountry
+returns c = sym (on-refused _ _ (sym (c .before .before .before .read-ranged .ensures) ∙ c .before .e .given .1))
+
+returns-2 : tie.Need-returns-2
+unfolding readCountry
+returns-2 c =
+    sym
+    (on-value _ _ (count-read (c .before .before .before .before .before))
+    ∙ on-refused _ _ (sym (c .before .before .before .read-number .ensures) ∙ c .before .e2 .given .1))
+
+returns-3 : tie.Need-returns-3
+unfolding readCountry
+returns-3 c =
+    sym
+    (on-value _ _ (count-read (c .before .before .before .before .before .before))
+    ∙ on-value _ _ (sym (c .before .before .before .before .read-number .ensures) ∙ c .before .before .value .given .1)
+    ∙ sym (c .country-field .ensures))
+
+pub read-country-spec : {M : Type 1} → statement M
+read-country-spec =
+    tie.close
+    (tie.spec
+    read-ranged-requires
+    enum-known-e
+    enum-known-count
+    read-number-requires
+    enum-known-e-2
+    enum-known-value
+    country-field-requires
+    returns
+    returns-2
+    returns-3)

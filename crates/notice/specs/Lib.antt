@@ -1,0 +1,4 @@
+-- The rules of price notices: read, checked and written.
+pub mod Field
+pub mod LineRule
+pub mod NoticeRule
