@@ -1,0 +1,106 @@
+-- Fresh books: the refusals by the tests of the code, the words left, and that they are a sound book of no entries. Assumes
+-- nothing.
+use mathlib.Core.Path.{_≡_, refl, ap, sym, _∙_}
+use mathlib.Core.Bool.{Bool, true, false, cond}
+use mathlib.Core.List.{List, [], _∷_, append-nil}
+use Prim.Native.Nat.{ℕ, suc, _+_, _-_, _≤_, _<_}
+use native.Mathlib.Nat.{sub-zero}
+use native.Mathlib.Omega.{arith}
+use borrow.Author.Tests.{le-leb, lt-leb, lt-ltb, le-ltb, ne-eqb, leb-true, ltb-false}
+use lib.Dec.{leb, ltb}
+use lib.ListN.{length, set, replicate, drop-of-length-le, length-replicate}
+use lib.Seq.{sets, sets-eq}
+use Rattle.book.specs.Layout.{entriesOf}
+use Rattle.book.specs.Soundness.{sound}
+use Rattle.book.specs.Status.{statusIn}
+use Rattle.book.specs.Answers.{freshRefusal, freshBook, freshWords}
+use Rattle.book.specs.declared.Entry.{Entry}
+use Rattle.book.proofs.Rules.{no-entries}
+use Rattle.book.proofs.BookWords.{book-length, entries-back, sound-back}
+
+-- The refusal by the tests of the code.
+module _ (len period : ℕ) where
+  pub long-period : 365 < period → 22 ≡ freshRefusal len period
+  unfolding freshRefusal
+  long-period h = sym (rw (lt-leb period 365 h))
+
+  pub few-words : period ≤ 365 → len < 4 → 20 ≡ freshRefusal len period
+  unfolding freshRefusal
+  few-words h l = sym (rw (le-leb period 365 h, lt-ltb len 4 l))
+
+  pub not-refused : period ≤ 365 → 4 ≤ len → 0 ≡ freshRefusal len period
+  unfolding freshRefusal
+  not-refused h l = sym (rw (le-leb period 365 h, le-ltb len 4 l))
+
+-- A refused call leaves every word as it was.
+pub refused :
+    (ws : List ℕ) (period r : ℕ)
+    → r ≡ freshRefusal (length ws) period
+    → (r ≡ 0 → ⊥)
+    → (r ≡ freshRefusal (length ws) period) × (ws ≡ freshWords ws period)
+unfolding freshWords
+refused ws period r e n = (e, sym (rw (ne-eqb (freshRefusal (length ws) period) 0 (λ z. n (e ∙ z)))))
+
+-- every word set to 0
+all-clear : (ws : List ℕ) → sets ws 0 (replicate (length ws - 0) 0) ≡ replicate (length ws) 0
+all-clear ws =
+    let l : length (replicate {A = ℕ} (length ws) 0) ≡ length ws = length-replicate (length ws) 0 in
+    rw sub-zero
+    (sets-eq (replicate (length ws) 0) ws 0 (omega arith)
+    ∙ rw (drop-of-length-le ws {i = 0 + length (replicate {A = ℕ} (length ws) 0)} (omega arith)) (append-nil _))
+
+-- Any other call leaves a book of no entries.
+pub done :
+    (ws : List ℕ) (period : ℕ) {l : List ℕ}
+    → period ≤ 365
+    → 4 ≤ length ws
+    → l ≡ sets ws 0 (replicate (length ws - 0) 0)
+    → (0 ≡ freshRefusal (length ws) period) × (set l 1 period ≡ freshWords ws period)
+unfolding freshWords freshBook
+done ws period h m e =
+    let n = not-refused (length ws) period h m in
+    (n, ap (λ (x : List ℕ). set x 1 period) (e ∙ all-clear ws) ∙ rw (sym n) (words ws m))
+  where
+    words : (ws : List ℕ) → 4 ≤ length ws → set (replicate (length ws) 0) 1 period ≡ freshBook (length ws) period
+    words (a ∷ []) l = absurd (omega arith)
+    words (a ∷ b ∷ []) l = absurd (omega arith)
+    words (a ∷ b ∷ k ∷ []) l = absurd (omega arith)
+    words (a ∷ b ∷ k ∷ d ∷ ws) l =
+        let n : suc (suc (suc (suc (length ws)))) - 4 ≡ length ws = omega arith in
+        rw n
+
+-- A fresh book that is not refused is the words left: a sound book of the length lent, with no entries, all of it closed.
+module _ (len period : ℕ) (e : freshRefusal len period ≡ 0) where
+  pub accepted : (period ≤ 365) × (4 ≤ len)
+  unfolding freshRefusal
+  accepted = go (leb period 365) refl (ltb len 4) refl e
+    where
+      go : (t : Bool) → leb period 365 ≡ t → (u : Bool) → ltb len 4 ≡ u → _≡_ {A = ℕ} (cond t (cond u 20 0) 22) 0
+          → (period ≤ 365) × (4 ≤ len)
+      go true p true q z = absurd (omega arith)
+      go true p false q z = (leb-true period 365 p, ltb-false len 4 q)
+      go false p u q z = absurd (omega arith)
+
+  pub fresh-length : length (freshBook len period) ≡ len
+  unfolding freshBook
+  fresh-length = book-length len period 0 0 [] (accepted .1) (omega arith)
+
+  pub fresh-sound : sound (freshBook len period) ≡ true
+  unfolding freshBook
+  fresh-sound =
+      sound-back len period 0 0 [] (accepted .1) (omega arith) (accepted .0) (omega arith) (omega arith) no-entries
+
+pub fresh-entries : (len period : ℕ) → entriesOf (freshBook len period) ≡ []
+unfolding freshBook
+fresh-entries len period = entries-back len period 0 0 []
+
+pub fresh-closed : (len period x d : ℕ) → statusIn (entriesOf (freshBook len period)) x d ≡ 0
+unfolding statusIn
+fresh-closed len period x d = ap (λ (es : List Entry). statusIn es x d) (fresh-entries len period)
+
+pub fresh-left :
+    (ws : List ℕ) (period : ℕ)
+    → freshRefusal (length ws) period ≡ 0
+    → freshWords ws period ≡ freshBook (length ws) period
+unfolding freshWords
+fresh-left ws period e = rw e

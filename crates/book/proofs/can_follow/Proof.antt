@@ -1,0 +1,34 @@
+-- can_follow meets its contract: by the day and status of the same code, or as the first of a code with a larger key. Assumes
+-- nothing.
+use mathlib.Core.Path.{sym, _∙_}
+use native.Mathlib.Omega.{arith}
+use borrow.Author.Needs.{needs}
+use Rattle.book.proofs.Rules.{not-later, repeated, changed, smaller-key, larger-key}
+use Rattle.book.proofs.can_follow.Statement.{statement}
+use Rattle.book.proofs.can_follow.Tie as tie
+
+returns : tie.Need-returns
+returns c = sym (not-later _ _ (omega arith) (c .if2 .taken))
+
+returns-2 : tie.Need-returns-2
+returns-2 c = sym (repeated _ _ (omega arith) (c .if3 .taken))
+
+in-range-requires : tie.Need-in-range-requires
+in-range-requires c κs = search needs
+
+returns-3 : tie.Need-returns-3
+returns-3 c = c .in-range .ensures ∙ sym (changed _ _ (omega arith) (omega arith) (c .before .if3 .left))
+
+returns-4 : tie.Need-returns-4
+returns-4 c = sym (smaller-key _ _ (c .if4 .taken))
+
+can-begin-requires : tie.Need-can-begin-requires
+can-begin-requires c κs = search needs
+
+returns-5 : tie.Need-returns-5
+returns-5 c = c .can-begin .ensures ∙ sym (larger-key _ _ (omega arith))
+
+pub can-follow-spec : {M : Type 1} → statement M
+can-follow-spec =
+    tie.close
+    (tie.spec returns returns-2 in-range-requires returns-3 returns-4 can-begin-requires returns-5)

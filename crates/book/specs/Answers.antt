@@ -1,0 +1,59 @@
+-- What the calls on a book answer and leave (document 01, "Who can cause a refusal": the orders).
+use mathlib.Core.Path.{_≡_, refl}
+use mathlib.Core.Bool.{Bool, cond, _&&_}
+use mathlib.Core.List.{List, [], _∷_, map}
+use Prim.Native.Nat.{ℕ}
+use lib.Dec.{eqb, leb, ltb}
+use lib.ListN.{length}
+use Rattle.refusal.specs.Refusal.{bookTooShort, bookNotSound, periodTooLong, notANumber, timeOutOfRange}
+use Rattle.dial_code.specs.Digits.{every, isAscii, digitOf, isNumber}
+use Rattle.rate.specs.Time.{isDay}
+use Rattle.rate.specs.declared.Day.{Day}
+use Rattle.book.specs.Layout.{headerWords, mostPeriod, entriesOf, bookOf}
+use Rattle.book.specs.Soundness.{sound}
+use Rattle.book.specs.Status.{offerIn, matched}
+use Rattle.book.specs.declared.Lookup.{Lookup}
+use Rattle.book.specs.declared.Lookup.the-variants.{Found, Refused}
+
+-- A fresh book: 22, then 20; a book of no entries.
+unfoldable pub freshRefusal : ℕ → ℕ → ℕ
+freshRefusal len period = cond (leb period mostPeriod) (cond (ltb len headerWords) bookTooShort 0) periodTooLong
+
+unfoldable pub freshBook : ℕ → ℕ → List ℕ
+unfolding bookOf
+freshBook len period = bookOf len period 0 0 []
+
+-- The words that a fresh book leaves: a refused call changes none.
+unfoldable pub freshWords : List ℕ → ℕ → List ℕ
+unfolding freshRefusal freshBook
+freshWords ws period = cond (eqb (freshRefusal (length ws) period) 0) (freshBook (length ws) period) ws
+
+-- What keeps a book from being used: 20, then 21; 0 for a sound book.
+unfoldable pub bookRefusal : List ℕ → ℕ
+unfolding sound
+bookRefusal ws = cond (ltb (length ws) headerWords) bookTooShort (cond (sound ws) 0 bookNotSound)
+
+-- A number given as ASCII digits.
+unfoldable pub isDialled : List ℕ → Bool
+unfolding isNumber
+isDialled s = every isAscii s && isNumber (map digitOf s)
+
+-- The answer to a number on a day: 20, 21, 40, 41, else the offer by longest match.
+unfoldable pub lookup : List ℕ → List ℕ → Day → Lookup
+unfolding bookRefusal isDialled matched offerIn entriesOf
+lookup ws number day =
+    cond (eqb (bookRefusal ws) 0)
+    (cond (isDialled number)
+    (cond (isDay day) (Found (matched (λ k. offerIn (entriesOf ws) k (day .0)) (map digitOf number))) (Refused timeOutOfRange))
+    (Refused notANumber))
+    (Refused (bookRefusal ws))
+
+fresh : freshRefusal 4 365 ∷ freshRefusal 3 365 ∷ freshRefusal 3 366 ∷ freshRefusal 4 366 ∷ [] ≡ 0 ∷ 20 ∷ 22 ∷ 22 ∷ []
+unfolding freshRefusal
+fresh = refl
+
+fresh-words :
+    freshWords (9 ∷ 9 ∷ 9 ∷ 9 ∷ 9 ∷ []) 7 ∷ freshWords (9 ∷ 9 ∷ 9 ∷ []) 7 ∷ []
+    ≡ (0 ∷ 7 ∷ 0 ∷ 0 ∷ 0 ∷ []) ∷ (9 ∷ 9 ∷ 9 ∷ []) ∷ []
+unfolding freshWords
+fresh-words = refl

@@ -1,0 +1,5 @@
+-- The theorems of the plain machine and the book.
+pub mod ChangeLaws
+pub mod Keeping
+pub mod Books
+pub mod Theorem

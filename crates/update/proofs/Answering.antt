@@ -1,0 +1,153 @@
+-- What an apply answers and leaves, by the tests of the code. Assumes nothing.
+use mathlib.Core.Path.{_≡_, ap, sym, _∙_}
+use mathlib.Core.Bool.{true}
+use mathlib.Core.List.{List}
+use Prim.Native.Nat.{ℕ, _+_, _*_, _≤_, _<_}
+use native.Mathlib.Omega.{arith}
+use borrow.Author.Tests.{lt-ltb, le-ltb, le-leb, lt-leb, eq-eqb, ne-eqb}
+use lib.ListN.{length}
+use Rattle.notice.specs.NoticeRule.{Notice, notice, unread, lines, readNotice, checkNotice}
+use Rattle.notice.specs.declared.Summary.{Summary}
+use Rattle.notice.specs.declared.Checked.the-variants as checked
+use Rattle.notice.proofs.Checking.{Passed, check-passed, check-refused}
+use Rattle.notice.proofs.NoticeLaws.{notice-valid, notice-refusals}
+use Rattle.book.specs.Layout.{periodOf, receivedOf, latestOf, held, bookOf}
+use Rattle.book.specs.Soundness.{sound}
+use Rattle.book.specs.Answers.{bookRefusal}
+use Rattle.book.proofs.Headers.{sound-book, held-fits}
+use Rattle.book.proofs.Lookups.{usable-book}
+use Rattle.history.specs.Applying.{inBook, afterBook, newEntries, judgedBy, applyRefusal, refusedApply, applyAnswer, applied}
+use Rattle.history.specs.declared.Applied.{Applied}
+use Rattle.update.specs.Plans.{planOf, marksFor, linesIn, linesRead, sentLines, mergedBy, latestBy}
+use Rattle.update.specs.declared.Plan.{Plan}
+use Rattle.update.proofs.NewEntries.{new-facts}
+
+-- A refused apply answers its refusal, and leaves every word as it was.
+pub refuses : (ws s new : List ℕ) (e : ℕ) {r : Applied} → r ≡ refusedApply e → applyRefusal ws s (length new) ≡ e
+    → (e ≡ 0 → ⊥) → (r ≡ applyAnswer ws s (length new)) × (new ≡ applied ws s new)
+unfolding applyAnswer applied
+refuses ws s new e q f n =
+    let z = ne-eqb (applyRefusal ws s (length new)) 0 (λ x. n (sym f ∙ x)) in
+    (q ∙ rw z (ap refusedApply (sym f)), sym (rw z))
+
+-- The refusals that come before the notice.
+pub no-old : (ws s : List ℕ) (len : ℕ) → (bookRefusal ws ≡ 0 → ⊥) → applyRefusal ws s len ≡ bookRefusal ws
+unfolding applyRefusal
+no-old ws s len n = rw (ne-eqb (bookRefusal ws) 0 n)
+
+module _ (ws s : List ℕ) (len : ℕ) (b : bookRefusal ws ≡ 0) where
+  pub no-new : len < 4 → applyRefusal ws s len ≡ 20
+  unfolding applyRefusal
+  no-new h = rw (eq-eqb (bookRefusal ws) 0 b, lt-ltb len 4 h)
+
+  module _ (h : 4 ≤ len) where
+    pub no-notice : {e : ℕ} → readNotice s ≡ unread e → applyRefusal ws s len ≡ e
+    unfolding applyRefusal
+    no-notice r = rw (eq-eqb (bookRefusal ws) 0 b, le-ltb len 4 h, r)
+
+    judged : {n : Notice} → readNotice s ≡ notice n → applyRefusal ws s len ≡ judgedBy ws n len
+    unfolding applyRefusal
+    judged r = rw (eq-eqb (bookRefusal ws) 0 b, le-ltb len 4 h, r)
+
+-- A notice that the check refuses, with its number.
+pub refuses-notice : (ws s new : List ℕ) (e : ℕ) {r : Applied} → r ≡ refusedApply e → bookRefusal ws ≡ 0
+    → 4 ≤ length new → checkNotice s ≡ checked.Refused e → (r ≡ applyAnswer ws s (length new)) × (new ≡ applied ws s new)
+refuses-notice ws s new e q b h k =
+    let u = check-refused s e k in
+    refuses ws s new e q (no-notice ws s (length new) b h u) (λ z. omega (arith, notice-refusals s e u .0))
+
+-- What a checked notice tells: its lines, and the bounds on its received day and their number.
+pub record Ready (s : List ℕ) (m : Summary) : Type 0 where
+  pub passed : Passed s m
+  pub sends : sentLines s m ≡ passed .sent .lines
+  pub reads : linesRead s m ≡ lines (sentLines s m)
+  pub received-most : m .received ≤ 60000
+  pub lines-most : m .lines ≤ 65535
+
+pub ready : (s : List ℕ) (m : Summary) → checkNotice s ≡ checked.Notice m → Ready s m
+ready s m k =
+    let p = check-passed s m k in
+    let v = notice-valid s (p .sent) (p .read) in
+    record {
+      passed = p;
+      sends = ap linesIn (p .on);
+      reads = p .on ∙ ap lines (sym (ap linesIn (p .on)));
+      received-most = omega (arith, p .received, v .received-most);
+      lines-most = omega (arith, p .count, v .few-lines);
+    }
+
+-- A checked notice against a sound book: 10, 30, or the new book. `entries` and `latest` are what the merge comes to.
+module _
+    (ws s : List ℕ) (m : Summary) (new : List ℕ) (o : sound ws ≡ true) (h : 4 ≤ length new)
+    (k : checkNotice s ≡ checked.Notice m) where
+  by-judge : applyRefusal ws s (length new) ≡ judgedBy ws (ready s m k .passed .sent) (length new)
+  by-judge = judged ws s (length new) (usable-book ws (sound-book ws o .four) o) h (ready s m k .passed .read)
+
+  pub refuses-earlier : {r : Applied} → r ≡ refusedApply 10 → m .received < receivedOf ws
+      → (r ≡ applyAnswer ws s (length new)) × (new ≡ applied ws s new)
+  unfolding judgedBy
+  refuses-earlier q l =
+      let p = ready s m k .passed in
+      refuses ws s new 10 q
+      (by-judge ∙ rw (lt-ltb (p .sent .received) (receivedOf ws) (omega (arith, p .received))))
+      (λ z. omega arith)
+
+  module _
+      (l : receivedOf ws ≤ m .received) {p : Plan} (a : p ≡ planOf m (periodOf ws) (latestOf ws))
+      {marks : List ℕ} (b : marks ≡ marksFor (m .kind) (sentLines s m)) where
+    -- the merge's entries and latest day are those of the rules
+    pub merges : mergedBy ws p marks (sentLines s m) ≡ newEntries ws (ready s m k .passed .sent)
+    merges =
+        let y = ready s m k in
+        rw (a, b, y .sends) (new-facts ws s m o (y .passed) .0)
+
+    pub dates : latestBy p (inBook ws) (latestOf ws) (sentLines s m) ≡ afterBook ws (ready s m k .passed .sent) .latest
+    dates =
+        let y = ready s m k in
+        rw (a, y .sends) (new-facts ws s m o (y .passed) .1)
+
+    -- `kept` is the new book as counting leaves it, and `most` how many entries it can hold
+    module _
+        {count : ℕ} (e : count ≡ length (mergedBy ws p marks (sentLines s m)))
+        {kept : List ℕ} (q : kept ≡ new) {most : ℕ} (t : most ≡ held (length kept)) where
+      holds : most ≡ held (length new)
+      holds = t ∙ ap (λ (x : List ℕ). held (length x)) q
+
+      pub refuses-full : {r : Applied} → r ≡ refusedApply 30 → most < count
+          → (r ≡ applyAnswer ws s (length new)) × (kept ≡ applied ws s new)
+      unfolding judgedBy
+      refuses-full u f =
+          let y = ready s m k .passed in
+          let z =
+          refuses ws s new 30 u
+          (by-judge
+          ∙ rw (
+            le-ltb (y .sent .received) (receivedOf ws) (omega (arith, y .received)),
+            lt-leb (length (newEntries ws (y .sent))) (held (length new)) (omega (arith, e, holds, ap length merges)),
+          ))
+          (λ z. omega arith) in
+          (z .0, q ∙ z .1)
+
+      pub fill-room : count ≤ most → 4 + length (mergedBy ws p marks (sentLines s m)) * 3 ≤ length kept
+      fill-room f = omega (arith, e, ap length q, held-fits count (length new) h (omega (arith, holds)) .1)
+
+      pub accepts : count ≤ most → {latest : ℕ} → latest ≡ latestBy p (inBook ws) (latestOf ws) (sentLines s m)
+          → {next : List ℕ}
+          → next
+          ≡ bookOf (length kept) (periodOf ws) (m .received) (latestBy p (inBook ws) (latestOf ws) (sentLines s m))
+          (mergedBy ws p marks (sentLines s m))
+          → (record { refusal = 0; entries = count; received = m .received; latest = latest } ≡ applyAnswer ws s (length new))
+          × (next ≡ applied ws s new)
+      unfolding judgedBy applyAnswer applied
+      accepts f d n =
+          let y = ready s m k .passed in
+          let none : applyRefusal ws s (length new) ≡ 0 =
+          by-judge
+          ∙ rw (
+            le-ltb (y .sent .received) (receivedOf ws) (omega (arith, y .received)),
+            le-leb (length (newEntries ws (y .sent))) (held (length new)) (omega (arith, e, holds, ap length merges)),
+          ) in
+          let z = eq-eqb (applyRefusal ws s (length new)) 0 none in (
+            rw (z, y .read, d ∙ dates, e ∙ ap length merges, y .received),
+            n ∙ rw (merges, dates, q, z, y .read, y .received),
+          )

@@ -1,0 +1,142 @@
+-- `update::pass_unlisted` meets its contract. The loop's invariant: putting what is left of the gap does the whole of it.
+-- Assumes nothing.
+use mathlib.Core.Path.{_≡_, refl, sym, _∙_}
+use mathlib.Core.List.{_++_}
+use Prim.Native.Nat.{_+_, _-_, _*_, _≤_}
+use native.Mathlib.Omega.{arith}
+use borrow.Author.Needs.{needs}
+use lib.ListN.{length}
+use Rattle.book.specs.Layout.{entriesFrom}
+use Rattle.book.proofs.Rows.{rows-none}
+use Rattle.update.specs.Passes.{gapBelow, restFrom, unlistedAs}
+use Rattle.update.specs.Plans.{closesBy}
+use Rattle.update.proofs.Stores.{Writing, writing-all, writing-on, writing-counted, writing-end, writing-room}
+use Rattle.update.proofs.PassLaws.{next-row, gap-on, gap-stops, gap-none, rest-on, rest-stops, rest-none, at-most-two}
+use Rattle.update.proofs.pass_unlisted.Statement.{statement}
+use Rattle.update.proofs.pass_unlisted.Tie as tie
+
+abbrev Inv-loop : tie.InvT-loop
+Inv-loop old below plan marks new₀ write at₀ left₀ count₀ day new at left count =
+    (at + left * 3 ≤ length old) × (left ≤ left₀) × (count + 2 * left ≤ count₀ + 2 * left₀)
+    × Writing write new₀ count₀ (gapBelow below (closesBy plan marks) (plan .closing) (entriesFrom old at₀ left₀)) new count
+    (gapBelow below (closesBy plan marks) (plan .closing) (entriesFrom old at left))
+    × (restFrom below (entriesFrom old at left) ≡ restFrom below (entriesFrom old at₀ left₀))
+
+abbrev μ-loop : tie.MeasureT-loop
+μ-loop old below plan marks new₀ write at₀ left₀ count₀ day new at left count = left
+
+loop-holds : tie.Need-loop-holds Inv-loop μ-loop
+loop-holds c = (omega arith, omega arith, omega arith, writing-all _ _ _ _, refl)
+
+entry-at-requires : tie.Need-entry-at-requires Inv-loop μ-loop
+entry-at-requires c κs = search needs
+
+same-length : tie.Need-same-length Inv-loop μ-loop
+same-length c = search needs
+
+returns : tie.Need-returns Inv-loop μ-loop
+returns c =
+    let p = c .before .before in
+    let a = p .before .before .before .before .before .args in
+    let l = p .before .before .loop in
+    let q = next-row (a .old .now) (l .at) (l .left) (p .before .loop-test .taken) (p .entry-at .ensures) in
+    let none = gap-stops (a .below) (closesBy (a .plan) (a .marks .now)) (a .plan .closing) _ _ q (c .if1 .taken) in (
+      record {
+        counted = writing-counted (l .inv .3) none;
+        stands = l .inv .0;
+        fewer = l .inv .1;
+        left = rest-stops (a .below) _ _ q (c .if1 .taken) ∙ l .inv .4;
+      },
+      writing-end (l .inv .3) none,
+    )
+
+add-at : tie.Need-add-at Inv-loop μ-loop
+add-at c = search needs
+
+sub-left : tie.Need-sub-left Inv-loop μ-loop
+sub-left c = search needs
+
+closes-requires : tie.Need-closes-requires Inv-loop μ-loop
+closes-requires c κs = search needs
+
+at-entry : (c : tie.After-closes Inv-loop μ-loop) →
+    let p = c .before .before .before in
+    let a = p .before .before .before .before .before .args in
+    let l = p .before .before .loop in
+    let closes = closesBy (a .plan) (a .marks .now) in
+    let day = a .plan .closing in
+    let es = entriesFrom (a .old .now) (l .at + 3) (l .left - 1) in
+    gapBelow (a .below) closes day (entriesFrom (a .old .now) (l .at) (l .left))
+    ≡ unlistedAs (c .closes .result) day (p .entry-at .result) es ++ gapBelow (a .below) closes day es
+at-entry c =
+    let p = c .before .before .before in
+    let a = p .before .before .before .before .before .args in
+    let q = next-row _ _ _ (p .before .loop-test .taken) (p .entry-at .ensures) in
+    gap-on (a .below) (closesBy (a .plan) (a .marks .now)) (a .plan .closing) _ _ q (c .before .if1 .left) (c .closes .ensures)
+
+put-unlisted-requires : tie.Need-put-unlisted-requires Inv-loop μ-loop
+put-unlisted-requires c κs =
+    let p = c .before .before .before .before in
+    let a = p .before .before .before .before .before .args in
+    let l = p .before .before .loop in
+    let es = entriesFrom (a .old .now) (l .at + 3) (l .left - 1) in
+    let put = unlistedAs (c .before .closes .result) (a .plan .closing) (p .entry-at .result) es in
+    let room = p .before .before .before .before .before .pre .1 in
+    let rest = gapBelow (a .below) (closesBy (a .plan) (a .marks .now)) (a .plan .closing) es in
+    ((omega arith, omega arith), writing-room (l .inv .3) put rest (at-entry (c .before)) room)
+
+loop-less : tie.Need-loop-less Inv-loop μ-loop
+loop-less c = search needs
+
+loop-again : tie.Need-loop-again Inv-loop μ-loop
+loop-again c =
+    let p = c .before .before .before .before .before .before .before in
+    let a = p .before .before .before .before .before .args in
+    let l = p .before .before .loop in
+    let q = next-row (a .old .now) (l .at) (l .left) (p .before .loop-test .taken) (p .entry-at .ensures) in
+    let es = entriesFrom (a .old .now) (l .at + 3) (l .left - 1) in
+    let closed = c .before .before .before .before .closes .result in
+    let put = c .before .before .put-unlisted .ensures in (
+      omega arith,
+      omega arith,
+      omega (arith, put .0, at-most-two (a .plan .closing) (p .entry-at .result) es closed),
+      writing-on (l .inv .3) _ _ _ (at-entry (c .before .before .before .before)) (put .0) (put .1),
+      sym (rest-on (a .below) _ _ q (c .before .before .before .before .before .if1 .left)) ∙ l .inv .4,
+    )
+
+same-length-2 : tie.Need-same-length-2 Inv-loop μ-loop
+same-length-2 c = search needs
+
+returns-2 : tie.Need-returns-2 Inv-loop μ-loop
+returns-2 c =
+    let a = c .before .before .before .before .args in
+    let l = c .before .loop in
+    let q = rows-none (a .old .now) (l .at) (l .left) (omega arith) in
+    let none = gap-none (a .below) (closesBy (a .plan) (a .marks .now)) (a .plan .closing) q in (
+      record {
+        counted = writing-counted (l .inv .3) none;
+        stands = l .inv .0;
+        fewer = l .inv .1;
+        left = rest-none (a .below) q ∙ l .inv .4;
+      },
+      writing-end (l .inv .3) none,
+    )
+
+pub pass-unlisted-spec : {M : Type 1} → statement M
+pass-unlisted-spec =
+    tie.close
+    (tie.spec
+    Inv-loop
+    μ-loop
+    loop-holds
+    entry-at-requires
+    same-length
+    returns
+    add-at
+    sub-left
+    closes-requires
+    put-unlisted-requires
+    loop-less
+    loop-again
+    same-length-2
+    returns-2)

@@ -1,0 +1,4 @@
+-- How applying a notice divides its work. No public contract cites these: the rules are those of the crate history.
+pub mod Passes
+pub mod Plans
+pub mod Standing

@@ -1,0 +1,144 @@
+// The merge of a book and a notice, and the call that applies a notice.
+ghost use mathlib.Core.Path.{_≡_};
+ghost use mathlib.Core.Bool.{true};
+ghost use Prim.Native.Nat.{_+_, _*_, _≤_};
+ghost use lib.ListN.{length};
+ghost use Rattle.notice.specs.NoticeRule.{lines, checkNotice};
+ghost use Rattle.notice.specs.declared.Checked.the-variants.{Notice};
+ghost use Rattle.book.specs.Layout.{wordsOf, bookOf, periodOf, latestOf};
+ghost use Rattle.book.specs.Soundness.{sound};
+ghost use Rattle.history.specs.Applying.{inBook, refusedApply, applyAnswer, applied};
+ghost use Rattle.update.specs.Plans.{latestBy, linesRead, sentLines, mergedBy, stored};
+use crate::Place;
+use crate::Plan;
+use history::Applied;
+use notice::Checked;
+use notice::LineRead;
+use notice::Summary;
+
+const HEADER_WORDS: usize = 4;
+
+const ENTRY_WORDS: usize = 3;
+// Every key is below this.
+const KEYS_END: u64 = 4_177_248_169_415_651;
+
+// What a merge comes to: how many entries, and the latest effective day.
+pub struct Merged {
+    pub count: usize,
+    pub latest: u64,
+}
+
+// Merges the old entries and the changes of the lines into the new book, or only counts what that comes to.
+fn merge(
+    old: &[u64],
+    notice: &[u8],
+    m: Summary,
+    plan: Plan,
+    marks: &[u8; 1000],
+    new: &mut [u64],
+    write: bool,
+) -> Merged
+    requires { ⌜ (sound (now old) ≡ true) × (linesRead (now notice) m ≡ lines (sentLines (now notice) m)) × (m .lines ≤ 65535) ⌝ }
+    requires { ⌜ (write ≡ true → 4 + length (mergedBy (now old) plan (now marks) (sentLines (now notice) m)) * 3 ≤ length (now new)) ⌝ }
+    ensures { λ r. ⌜ (r .count ≡ length (mergedBy (now (old .entry)) plan (now (marks .entry)) (sentLines (now (notice .entry)) m))) × (r .latest ≡ latestBy plan (inBook (now (old .entry))) (latestOf (now (old .entry))) (sentLines (now (notice .entry)) m)) ⌝ }
+    ensures { λ _. ⌜ now (new .exit) ≡ stored write (now (new .entry)) 4 (wordsOf (mergedBy (now (old .entry)) plan (now (marks .entry)) (sentLines (now (notice .entry)) m))) ⌝ }
+{
+    let mut place = Place {
+        at: HEADER_WORDS,
+        left: old[0] as usize,
+        count: 0,
+    };
+    let mut latest = old[3];
+    let mut at = m.start;
+    let mut left = m.lines;
+    while 0 < left {
+        match notice::line_at(notice, at) {
+            LineRead::Refused(_) => {
+                return Merged {
+                    count: place.count,
+                    latest,
+                };
+            }
+            LineRead::Read(line, end) => {
+                let change = crate::change_of(old, plan, line);
+                latest = crate::larger(latest, change.day);
+                place = crate::pass_line(old, place, change, plan, marks, new, write);
+                at = end;
+                left -= 1;
+            }
+        }
+    }
+    let to = crate::pass_unlisted(old, place, KEYS_END, plan, marks, new, write);
+    Merged {
+        count: to.count,
+        latest,
+    }
+}
+
+// Writes the new book: entries, zeros, header.
+fn fill(old: &[u64], notice: &[u8], m: Summary, plan: Plan, marks: &[u8; 1000], new: &mut [u64])
+    requires { ⌜ (sound (now old) ≡ true) × (linesRead (now notice) m ≡ lines (sentLines (now notice) m)) × (m .lines ≤ 65535) ⌝ }
+    requires { ⌜ 4 + length (mergedBy (now old) plan (now marks) (sentLines (now notice) m)) * 3 ≤ length (now new) ⌝ }
+    ensures { λ _. ⌜ now (new .exit) ≡ bookOf (length (now (new .entry))) (periodOf (now (old .entry))) (m .received) (latestBy plan (inBook (now (old .entry))) (latestOf (now (old .entry))) (sentLines (now (notice .entry)) m)) (mergedBy (now (old .entry)) plan (now (marks .entry)) (sentLines (now (notice .entry)) m)) ⌝ }
+{
+    let done = merge(old, notice, m, plan, marks, new, true);
+    book::clear(new, HEADER_WORDS + done.count * ENTRY_WORDS);
+    new[0] = done.count as u64;
+    new[1] = old[1];
+    new[2] = m.received;
+    new[3] = done.latest;
+}
+
+fn refused(e: u64) -> Applied
+    ensures { λ r. ⌜ r ≡ refusedApply e ⌝ }
+{
+    Applied {
+        refusal: e,
+        entries: 0,
+        received: 0,
+        latest: 0,
+    }
+}
+
+// Applies a notice that has been checked. Nothing is written until nothing can be refused.
+fn apply_checked(old: &[u64], notice: &[u8], m: Summary, new: &mut [u64]) -> Applied
+    requires { ⌜ (sound (now old) ≡ true) × (4 ≤ length (now new)) × (checkNotice (now notice) ≡ Notice m) ⌝ }
+    ensures { λ r. ⌜ r ≡ applyAnswer (now (old .entry)) (now (notice .entry)) (length (now (new .entry))) ⌝ }
+    ensures { λ _. ⌜ now (new .exit) ≡ applied (now (old .entry)) (now (notice .entry)) (now (new .entry)) ⌝ }
+{
+    if m.received < old[2] {
+        return refused(refusal::RECEIVED_EARLIER);
+    }
+    let plan = crate::plan_of(m, old[1], old[3]);
+    let marks = crate::marks_for(notice, m);
+    let counted = merge(old, notice, m, plan, &marks, new, false);
+    if book::entries_held(new.len()) < counted.count {
+        return refused(refusal::BOOK_FULL);
+    }
+    fill(old, notice, m, plan, &marks, new);
+    Applied {
+        refusal: 0,
+        entries: counted.count as u64,
+        received: m.received,
+        latest: counted.latest,
+    }
+}
+
+// Applies a notice to an old book and writes the new one: 20 and 21 for the old book, 20 for the new, the notice's own refusals,
+// 10, 30. A refused apply changes no word.
+pub fn apply(old: &[u64], notice: &[u8], new: &mut [u64]) -> Applied
+    ensures { λ r. ⌜ r ≡ applyAnswer (now (old .entry)) (now (notice .entry)) (length (now (new .entry))) ⌝ }
+    ensures { λ _. ⌜ now (new .exit) ≡ applied (now (old .entry)) (now (notice .entry)) (now (new .entry)) ⌝ }
+{
+    let e = book::book_refusal(old);
+    if e != 0 {
+        return refused(e);
+    }
+    if new.len() < HEADER_WORDS {
+        return refused(refusal::BOOK_TOO_SHORT);
+    }
+    match notice::check_notice(notice) {
+        Checked::Refused(e) => refused(e),
+        Checked::Notice(m) => apply_checked(old, notice, m, new),
+    }
+}
