@@ -10,7 +10,8 @@ use lib.Dec.{eqb}
 use lib.ListN.{length, getD, drop, replicate, length-append, length-drop, length-replicate}
 use lib.Seq.{getD-drop, drop-drop, drop-cons, drop-at, drop-append-add}
 use Rattle.dial_code.proofs.Tests.{both}
-use Rattle.book.specs.Layout.{countOf, periodOf, receivedOf, latestOf, held}
+use Rattle.rate.specs.Time.{lastDay, lastReceivedDay}
+use Rattle.book.specs.Layout.{headerWords, entryWords, mostPeriod, countOf, periodOf, receivedOf, latestOf, held}
 use Rattle.book.specs.Layout.{entry, entryAt, entriesFrom, entriesOf, wordsOf, bookOf}
 use Rattle.book.specs.Soundness.{soundEntries, allZero, sound}
 use Rattle.book.specs.declared.Entry.{Entry}
@@ -33,9 +34,10 @@ rows-of ws at (e ∷ es) rest q =
     let o : getD ws (at + 2) 0 ≡ e .offer = word-at ws at 2 q in
     ap₂ _∷_
     (λ i. entry (k i) (d i) (o i))
-    (rows-of ws (at + 3) es rest (sym (drop-drop 3 at ws) ∙ ap (drop 3) q))
+    (rows-of ws (at + entryWords) es rest (sym (drop-drop entryWords at ws) ∙ ap (drop entryWords) q))
 
-pub length-words : (es : List Entry) → length (wordsOf es) ≡ length es * 3
+-- The entries' words are three an entry.
+pub length-words : (es : List Entry) → length (wordsOf es) ≡ length es * entryWords
 unfolding wordsOf
 length-words [] = refl
 length-words (e ∷ es) = omega (arith, length-words es)
@@ -55,7 +57,7 @@ clear-zeros (w ∷ l) h =
 -- The words of a book of so many words, with a header and entries.
 module _ (len period received latest : ℕ) (es : List Entry) where
   book-words : bookOf len period received latest es
-      ≡ length es ∷ period ∷ received ∷ latest ∷ (wordsOf es ++ replicate (len - (4 + length es * 3)) 0)
+      ≡ length es ∷ period ∷ received ∷ latest ∷ (wordsOf es ++ replicate (len - (headerWords + length es * entryWords)) 0)
   unfolding bookOf
   book-words = refl
 
@@ -68,31 +70,31 @@ module _ (len period received latest : ℕ) (es : List Entry) where
 
   pub entries-back : entriesOf (bookOf len period received latest es) ≡ es
   unfolding bookOf
-  entries-back = of-book _ ∙ rows-of _ 4 es _ refl
+  entries-back = of-book _ ∙ rows-of _ headerWords es _ refl
 
   -- It is as long as it says, where the entries are held.
-  pub book-length : 4 ≤ len → length es ≤ held len → length (bookOf len period received latest es) ≡ len
+  pub book-length : headerWords ≤ len → length es ≤ held len → length (bookOf len period received latest es) ≡ len
   unfolding bookOf
   book-length l h =
       rw (length-append (wordsOf es), length-words es, length-replicate {A = ℕ})
       (omega (arith, held-fits (length es) len l h .1))
 
-  unused : allZero (drop (4 + length es * 3) (bookOf len period received latest es)) ≡ true
+  unused : allZero (drop (headerWords + length es * entryWords) (bookOf len period received latest es)) ≡ true
   unfolding bookOf
   unused =
-      let zs : List ℕ = replicate (len - (4 + length es * 3)) 0 in
+      let zs : List ℕ = replicate (len - (headerWords + length es * entryWords)) 0 in
       ap allZero
-      (drop-append-add (length es ∷ period ∷ received ∷ latest ∷ []) (wordsOf es ++ zs) (length es * 3)
-      ∙ drop-at (wordsOf es) zs (length es * 3) (length-words es))
-      ∙ zeros-clear (len - (4 + length es * 3))
+      (drop-append-add (length es ∷ period ∷ received ∷ latest ∷ []) (wordsOf es ++ zs) (length es * entryWords)
+      ∙ drop-at (wordsOf es) zs (length es * entryWords) (length-words es))
+      ∙ zeros-clear (len - (headerWords + length es * entryWords))
 
   -- It is sound where its entries are, they are held, and its header is in range.
   pub sound-back :
-      4 ≤ len
+      headerWords ≤ len
       → length es ≤ held len
-      → period ≤ 365
-      → received ≤ 60000
-      → latest ≤ 65000
+      → period ≤ mostPeriod
+      → received ≤ lastReceivedDay
+      → latest ≤ lastDay
       → soundEntries es ≡ true
       → sound (bookOf len period received latest es) ≡ true
   sound-back l h p r e s =
@@ -108,18 +110,22 @@ module _ (len period received latest : ℕ) (es : List Entry) where
       (rw (k .0) unused)
 
 -- Words from a place on, as entries and what is left.
-words-of : (ws : List ℕ) (at n : ℕ) → at + n * 3 ≤ length ws → drop at ws ≡ wordsOf (entriesFrom ws at n) ++ drop (at + n * 3) ws
+words-of :
+    (ws : List ℕ) (at n : ℕ)
+    → at + n * entryWords ≤ length ws
+    → drop at ws ≡ wordsOf (entriesFrom ws at n) ++ drop (at + n * entryWords) ws
 unfolding entriesFrom entryAt wordsOf
 words-of ws at zero h = rw add-zero
 words-of ws at (suc n) h =
-    let e : at + suc n * 3 ≡ at + 3 + n * 3 = omega arith in
+    let e : at + suc n * entryWords ≡ at + entryWords + n * entryWords = omega arith in
     let p : suc at ≡ at + 1 = omega arith in
     let q : suc (at + 1) ≡ at + 2 = omega arith in
-    let r : suc (at + 2) ≡ at + 3 = omega arith in
+    let r : suc (at + 2) ≡ at + entryWords = omega arith in
     rw (drop-cons ws at 0 (omega arith), p, drop-cons ws (at + 1) 0 (omega arith), q, drop-cons ws (at + 2) 0 (omega arith), r, e)
-    (ap (λ (l : List ℕ). getD ws at 0 ∷ getD ws (at + 1) 0 ∷ getD ws (at + 2) 0 ∷ l) (words-of ws (at + 3) n (omega arith)))
+    (ap (λ (l : List ℕ). getD ws at 0 ∷ getD ws (at + 1) 0 ∷ getD ws (at + 2) 0 ∷ l)
+    (words-of ws (at + entryWords) n (omega arith)))
 
-four-words : (ws : List ℕ) → 4 ≤ length ws → ws ≡ countOf ws ∷ periodOf ws ∷ receivedOf ws ∷ latestOf ws ∷ drop 4 ws
+four-words : (ws : List ℕ) → headerWords ≤ length ws → ws ≡ countOf ws ∷ periodOf ws ∷ receivedOf ws ∷ latestOf ws ∷ drop 4 ws
 four-words [] h = absurd (omega arith)
 four-words (a ∷ []) h = absurd (omega arith)
 four-words (a ∷ b ∷ []) h = absurd (omega arith)
@@ -134,11 +140,13 @@ pub book-back :
 book-back ws s =
     let b = sound-book ws s in
     let h : List ℕ → List ℕ = λ l. periodOf ws ∷ receivedOf ws ∷ latestOf ws ∷ l in
-    let m : drop (4 + countOf ws * 3) ws ≡ replicate (length ws - (4 + countOf ws * 3)) 0 =
-    clear-zeros _ (b .unused) ∙ ap (λ (k : ℕ). replicate k 0) (length-drop (4 + countOf ws * 3) ws) in
+    let m : drop (headerWords + countOf ws * entryWords) ws ≡ replicate (length ws - (headerWords + countOf ws * entryWords)) 0 =
+    clear-zeros _ (b .unused) ∙ ap (λ (k : ℕ). replicate k 0) (length-drop (headerWords + countOf ws * entryWords) ws) in
     four-words ws (b .four)
     ∙ ap (λ (l : List ℕ). countOf ws ∷ h l)
-    (words-of ws 4 (countOf ws) (b .header .room) ∙ ap₂ (λ (x : List Entry) (y : List ℕ). wordsOf x ++ y) (sym (of-book ws)) m)
+    (words-of ws headerWords (countOf ws) (b .header .room)
+    ∙ ap₂ (λ (x : List Entry) (y : List ℕ). wordsOf x ++ y) (sym (of-book ws)) m)
     ∙ sym
     (book-words (length ws) (periodOf ws) (receivedOf ws) (latestOf ws) (entriesOf ws)
-    ∙ ap (λ (k : ℕ). k ∷ h (wordsOf (entriesOf ws) ++ replicate (length ws - (4 + k * 3)) 0)) (length-entries ws))
+    ∙ ap (λ (k : ℕ). k ∷ h (wordsOf (entriesOf ws) ++ replicate (length ws - (headerWords + k * entryWords)) 0))
+    (length-entries ws))

@@ -10,7 +10,8 @@ use borrow.Author.Tests.{le-leb, lt-leb, lt-ltb, le-ltb, ne-eqb, leb-true, ltb-f
 use lib.Dec.{leb, ltb}
 use lib.ListN.{length, set, replicate, drop-of-length-le, length-replicate}
 use lib.Seq.{sets, sets-eq}
-use Rattle.book.specs.Layout.{entriesOf}
+use Rattle.refusal.specs.Refusal.{periodTooLong, bookTooShort}
+use Rattle.book.specs.Layout.{headerWords, mostPeriod, entriesOf}
 use Rattle.book.specs.Soundness.{sound}
 use Rattle.book.specs.Status.{statusIn}
 use Rattle.book.specs.Answers.{freshRefusal, freshBook, freshWords}
@@ -20,17 +21,17 @@ use Rattle.book.proofs.BookWords.{book-length, entries-back, sound-back
 
 -- The refusal by the tests of the code.
 module _ (len period : ℕ) where
-  pub long-period : 365 < period → 22 ≡ freshRefusal len period
+  pub long-period : mostPeriod < period → periodTooLong ≡ freshRefusal len period
   unfolding freshRefusal
-  long-period h = sym (rw (lt-leb period 365 h))
+  long-period h = sym (rw (lt-leb period mostPeriod h))
 
-  pub few-words : period ≤ 365 → len < 4 → 20 ≡ freshRefusal len period
+  pub few-words : period ≤ mostPeriod → len < headerWords → bookTooShort ≡ freshRefusal len period
   unfolding freshRefusal
-  few-words h l = sym (rw (le-leb period 365 h, lt-ltb len 4 l))
+  few-words h l = sym (rw (le-leb period mostPeriod h, lt-ltb len headerWords l))
 
-  pub not-refused : period ≤ 365 → 4 ≤ len → 0 ≡ freshRefusal len period
+  pub not-refused : period ≤ mostPeriod → headerWords ≤ len → 0 ≡ freshRefusal len period
   unfolding freshRefusal
-  not-refused h l = sym (rw (le-leb period 365 h, le-ltb len 4 l))
+  not-refused h l = sym (rw (le-leb period mostPeriod h, le-ltb len headerWords l))
 
 -- A refused call leaves every word as it was.
 pub refused :
@@ -52,8 +53,8 @@ all-clear ws =
 -- Any other call leaves a book of no entries.
 pub done :
     (ws : List ℕ) (period : ℕ) {l : List ℕ}
-    → period ≤ 365
-    → 4 ≤ length ws
+    → period ≤ mostPeriod
+    → headerWords ≤ length ws
     → l ≡ sets ws 0 (replicate (length ws - 0) 0)
     → (0 ≡ freshRefusal (length ws) period) × (set l 1 period ≡ freshWords ws period)
 unfolding freshWords freshBook
@@ -61,7 +62,7 @@ done ws period h m e =
     let n = not-refused (length ws) period h m in
     (n, ap (λ (x : List ℕ). set x 1 period) (e ∙ all-clear ws) ∙ rw (sym n) (words ws m))
   where
-    words : (ws : List ℕ) → 4 ≤ length ws → set (replicate (length ws) 0) 1 period ≡ freshBook (length ws) period
+    words : (ws : List ℕ) → headerWords ≤ length ws → set (replicate (length ws) 0) 1 period ≡ freshBook (length ws) period
     words (a ∷ []) l = absurd (omega arith)
     words (a ∷ b ∷ []) l = absurd (omega arith)
     words (a ∷ b ∷ k ∷ []) l = absurd (omega arith)
@@ -71,14 +72,15 @@ done ws period h m e =
 
 -- A fresh book that is not refused is the words left: a sound book of the length lent, with no entries, all of it closed.
 module _ (len period : ℕ) (e : freshRefusal len period ≡ 0) where
-  pub accepted : (period ≤ 365) × (4 ≤ len)
+  pub accepted : (period ≤ mostPeriod) × (headerWords ≤ len)
   unfolding freshRefusal
-  accepted = go (leb period 365) refl (ltb len 4) refl e
+  accepted = go (leb period mostPeriod) refl (ltb len headerWords) refl e
     where
-      go : (t : Bool) → leb period 365 ≡ t → (u : Bool) → ltb len 4 ≡ u → _≡_ {A = ℕ} (cond t (cond u 20 0) 22) 0
-          → (period ≤ 365) × (4 ≤ len)
+      go : (t : Bool) → leb period mostPeriod ≡ t → (u : Bool) → ltb len headerWords ≡ u
+          → _≡_ {A = ℕ} (cond t (cond u bookTooShort 0) periodTooLong) 0
+          → (period ≤ mostPeriod) × (headerWords ≤ len)
       go true p true q z = absurd (omega arith)
-      go true p false q z = (leb-true period 365 p, ltb-false len 4 q)
+      go true p false q z = (leb-true period mostPeriod p, ltb-false len headerWords q)
       go false p u q z = absurd (omega arith)
 
   pub fresh-length : length (freshBook len period) ≡ len
@@ -90,6 +92,7 @@ module _ (len period : ℕ) (e : freshRefusal len period ≡ 0) where
   fresh-sound =
       sound-back len period 0 0 [] (accepted .1) (omega arith) (accepted .0) (omega arith) (omega arith) no-entries
 
+-- It has no entries, and every code is closed on every day.
 pub fresh-entries : (len period : ℕ) → entriesOf (freshBook len period) ≡ []
 unfolding freshBook
 fresh-entries len period = entries-back len period 0 0 []
@@ -98,6 +101,7 @@ pub fresh-closed : (len period x d : ℕ) → statusIn (entriesOf (freshBook len
 unfolding statusIn
 fresh-closed len period x d = ap (λ (es : List Entry). statusIn es x d) (fresh-entries len period)
 
+-- These are the words that a call leaves that is not refused.
 pub fresh-left :
     (ws : List ℕ) (period : ℕ)
     → freshRefusal (length ws) period ≡ 0

@@ -7,7 +7,7 @@ use native.Mathlib.Omega.{arith}
 use borrow.Author.Tests.{leb-true, leb-false, ltb-true, ltb-false, eqb-true, eqb-false, eq-eqb, ne-eqb}
 use lib.Dec.{eqb, leb, ltb}
 use lib.ListN.{length}
-use Rattle.book.specs.Layout.{countOf, entryAt, entriesFrom, entriesOf}
+use Rattle.book.specs.Layout.{headerWords, entryWords, countOf, entryAt, entriesFrom, entriesOf}
 use Rattle.book.specs.Search.{notAfter}
 use Rattle.book.specs.Soundness.{sound}
 use Rattle.book.specs.Status.{statusFrom, statusIn}
@@ -18,14 +18,14 @@ use Rattle.book.proofs.Statuses.{Before, smaller, earlier, starts-close
 
 module _ (ws : List ℕ) (key day : ℕ) where
   -- The middle entry becomes the last that is not after, or the first that is.
-  pub middle : (m : ℕ) {e : Entry} {t u : Bool} → e ≡ entryAt ws (4 + m * 3) → t ≡ notAfter e key day → t ≡ u
-      → notAfter (entryAt ws (4 + m * 3)) key day ≡ u
+  pub middle : (m : ℕ) {e : Entry} {t u : Bool} → e ≡ entryAt ws (headerWords + m * entryWords) → t ≡ notAfter e key day → t ≡ u
+      → notAfter (entryAt ws (headerWords + m * entryWords)) key day ≡ u
   middle m q r s = ap (λ (x : Entry). notAfter x key day) (sym q) ∙ sym r ∙ s
 
   pub passed :
       (m : ℕ)
-      → notAfter (entryAt ws (4 + m * 3)) key day ≡ true
-      → notAfter (entryAt ws (4 + (m + 1 - 1) * 3)) key day ≡ true
+      → notAfter (entryAt ws (headerWords + m * entryWords)) key day ≡ true
+      → notAfter (entryAt ws (headerWords + (m + 1 - 1) * entryWords)) key day ≡ true
   passed m h =
       let f : m + 1 - 1 ≡ m = omega arith in
       rw f h
@@ -35,9 +35,9 @@ module _ (ws : List ℕ) (key day : ℕ) where
       (count lo hi : ℕ)
       → lo ≤ hi
       → hi ≤ lo
-      → (hi < count → notAfter (entryAt ws (4 + hi * 3)) key day ≡ false)
+      → (hi < count → notAfter (entryAt ws (headerWords + hi * entryWords)) key day ≡ false)
       → lo < count
-      → notAfter (entryAt ws (4 + lo * 3)) key day ≡ false
+      → notAfter (entryAt ws (headerWords + lo * entryWords)) key day ≡ false
   meets count lo hi a b h l =
       let f : lo ≡ hi = omega arith in
       rw f (h (omega arith))
@@ -67,11 +67,11 @@ module _
     (s : sound ws ≡ true)
     (x d r : ℕ)
     (h : r ≤ countOf ws)
-    (t : 0 < r → notAfter (entryAt ws (4 + (r - 1) * 3)) x d ≡ true)
-    (p : r < countOf ws → notAfter (entryAt ws (4 + r * 3)) x d ≡ false)
+    (t : 0 < r → notAfter (entryAt ws (headerWords + (r - 1) * entryWords)) x d ≡ true)
+    (p : r < countOf ws → notAfter (entryAt ws (headerWords + r * entryWords)) x d ≡ false)
   where
     es : List Entry
-    es = entriesFrom ws 4 (countOf ws)
+    es = entriesFrom ws headerWords (countOf ws)
 
     all-sound : Sound es
     unfolding es
@@ -84,20 +84,20 @@ module _
     behind : r < length es → Before (entryIn es r .key) (entryIn es r .day) x d
     unfolding es
     behind l =
-        let m : r < countOf ws = omega (arith, length-rows ws 4 (countOf ws)) in
-        rw (row-at ws 4 (countOf ws) r m) (stands-after _ x d (p m))
+        let m : r < countOf ws = omega (arith, length-rows ws headerWords (countOf ws)) in
+        rw (row-at ws headerWords (countOf ws) r m) (stands-after _ x d (p m))
 
     pub nothing-before : r ≡ 0 → 0 ≡ statusIn (entriesOf ws) x d
     nothing-before z =
         sym (from-rows ∙ no-last-entry 0 0 0 0 es r x d all-sound (omega arith) (λ j q. absurd (omega arith)) behind)
 
-    module _ {e : Entry} (l : 0 < r) (q : e ≡ entryAt ws (4 + (r - 1) * 3)) where
+    module _ {e : Entry} (l : 0 < r) (q : e ≡ entryAt ws (headerWords + (r - 1) * entryWords)) where
       not-later : notAfter e x d ≡ true
       not-later = ap (λ (g : Entry). notAfter g x d) q ∙ t l
 
       row-before : entryIn es (r - 1) ≡ e
       unfolding es
-      row-before = row-at ws 4 (countOf ws) (r - 1) (omega arith) ∙ sym q
+      row-before = row-at ws headerWords (countOf ws) (r - 1) (omega arith) ∙ sym q
 
       pub own-entry : e .key ≡ x → e .offer ≡ statusIn (entriesOf ws) x d
       unfolding es
@@ -107,7 +107,7 @@ module _
           (from-rows
           ∙ last-entry 0 0 0 0 es (r - 1) x d
           all-sound
-          (omega (arith, length-rows ws 4 (countOf ws)))
+          (omega (arith, length-rows ws headerWords (countOf ws)))
           (ap (λ (g : Entry). g .key) row-before ∙ k)
           (rw row-before (in-time e x d not-later k))
           (rw f behind)
@@ -120,6 +120,6 @@ module _
           (from-rows
           ∙ no-last-entry 0 0 0 0 es r x d
           all-sound
-          (omega (arith, length-rows ws 4 (countOf ws)))
+          (omega (arith, length-rows ws headerWords (countOf ws)))
           (λ j z. let f : j ≡ r - 1 = omega arith in rw (f, row-before) (less-key e x d not-later n))
           behind)

@@ -7,29 +7,32 @@ use native.Mathlib.Omega.{arith}
 use borrow.Author.Tests.{le-leb, leb-true}
 use lib.ListN.{length, drop}
 use Rattle.dial_code.proofs.Tests.{both}
+use Rattle.rate.specs.Time.{lastDay, lastReceivedDay}
+use Rattle.book.specs.Layout.{headerWords, entryWords, mostPeriod}
 use Rattle.book.specs.Layout.{mostEntries, countOf, periodOf, receivedOf, latestOf, held, entriesOf}
 use Rattle.book.specs.Soundness.{soundEntries, allZero, soundHeader, sound}
 use Rattle.book.proofs.Rules.{header-test, sound-test, by-latest, by-rest}
 
 -- So many entries are held where there are at most the most entries, and words for all of them.
-pub held-fits : (n len : ℕ) → 4 ≤ len → n ≤ held len → (n ≤ mostEntries) × (4 + n * 3 ≤ len)
+pub held-fits : (n len : ℕ) → headerWords ≤ len → n ≤ held len → (n ≤ mostEntries) × (headerWords + n * entryWords ≤ len)
 unfolding held
 held-fits n len h e = (omega arith, omega arith)
 
-pub fits-held : (n len : ℕ) → 4 ≤ len → n ≤ mostEntries → 4 + n * 3 ≤ len → n ≤ held len
+pub fits-held : (n len : ℕ) → headerWords ≤ len → n ≤ mostEntries → headerWords + n * entryWords ≤ len → n ≤ held len
 unfolding held
 fits-held n len h m e = omega arith
 
 -- A sound header: the count within the entries held, so that there are words for as many entries, and the ranges.
 pub record Headed (ws : List ℕ) : Type 0 where
   pub count-held : countOf ws ≤ held (length ws)
-  pub count-most : countOf ws ≤ 65535
-  pub room : 4 + countOf ws * 3 ≤ length ws
-  pub period-most : periodOf ws ≤ 365
-  pub received-most : receivedOf ws ≤ 60000
-  pub latest-most : latestOf ws ≤ 65000
+  pub count-most : countOf ws ≤ mostEntries
+  pub room : headerWords + countOf ws * entryWords ≤ length ws
+  pub period-most : periodOf ws ≤ mostPeriod
+  pub received-most : receivedOf ws ≤ lastReceivedDay
+  pub latest-most : latestOf ws ≤ lastDay
 
-pub headed : (ws : List ℕ) → 4 ≤ length ws → soundHeader ws ≡ true → Headed ws
+-- What the test of the header shows.
+pub headed : (ws : List ℕ) → headerWords ≤ length ws → soundHeader ws ≡ true → Headed ws
 headed ws l h =
     let a = both _ _ (sym (header-test ws) ∙ h) in
     let b = both _ _ (a .1) in
@@ -40,34 +43,35 @@ headed ws l h =
       count-held = n;
       count-most = f .0;
       room = f .1;
-      period-most = leb-true (periodOf ws) 365 (b .0);
-      received-most = leb-true (receivedOf ws) 60000 (r .0);
-      latest-most = leb-true (latestOf ws) 65000 (r .1);
+      period-most = leb-true (periodOf ws) mostPeriod (b .0);
+      received-most = leb-true (receivedOf ws) lastReceivedDay (r .0);
+      latest-most = leb-true (latestOf ws) lastDay (r .1);
     }
 
 -- A sound book: four words, a sound header, sound entries, and 0 in every unused word.
 pub record SoundBook (ws : List ℕ) : Type 0 where
-  pub four : 4 ≤ length ws
+  pub four : headerWords ≤ length ws
   pub header : Headed ws
   pub entries : soundEntries (entriesOf ws) ≡ true
-  pub unused : allZero (drop (4 + countOf ws * 3) ws) ≡ true
+  pub unused : allZero (drop (headerWords + countOf ws * entryWords) ws) ≡ true
 
+-- What the test of a book shows, and what makes it hold.
 pub sound-book : (ws : List ℕ) → sound ws ≡ true → SoundBook ws
 sound-book ws s =
     let a = both _ _ (sym (sound-test ws) ∙ s) in
     let b = both _ _ (a .1) in
     let r = both _ _ (b .1) in
-    let l = leb-true 4 (length ws) (a .0) in
+    let l = leb-true headerWords (length ws) (a .0) in
     record { four = l; header = headed ws l (b .0); entries = r .0; unused = r .1 }
 
 pub book-sound :
     (ws : List ℕ)
-    → 4 ≤ length ws
+    → headerWords ≤ length ws
     → countOf ws ≤ held (length ws)
-    → periodOf ws ≤ 365
-    → receivedOf ws ≤ 60000
-    → latestOf ws ≤ 65000
+    → periodOf ws ≤ mostPeriod
+    → receivedOf ws ≤ lastReceivedDay
+    → latestOf ws ≤ lastDay
     → soundEntries (entriesOf ws) ≡ true
-    → allZero (drop (4 + countOf ws * 3) ws) ≡ true
+    → allZero (drop (headerWords + countOf ws * entryWords) ws) ≡ true
     → sound ws ≡ true
 book-sound ws l n p r e s u = by-rest ws l (by-latest ws n p r ∙ le-leb _ _ e) s ∙ u

@@ -7,6 +7,7 @@ use native.Mathlib.Omega.{arith}
 use borrow.Author.Tests.{eq-eqb, ne-eqb, lt-ltb, le-ltb}
 use lib.Dec.{eqb, ltb}
 use lib.ListN.{length}
+use Rattle.refusal.specs.Refusal.{notANumber, bookTooShort, bookNotSound, timeOutOfRange}
 use Rattle.dial_code.specs.Digits.{every, isAscii, digitOf, isNumber}
 use Rattle.dial_code.specs.Key.{key, digitsOfKey, numberKey}
 use Rattle.dial_code.specs.declared.Keyed.the-variants.{Key, Refused as NoKey}
@@ -15,13 +16,14 @@ use Rattle.dial_code.proofs.DigitLaws.{number-facts}
 use Rattle.dial_code.proofs.KeyLaws.{digits-back}
 use Rattle.rate.specs.Time.{isDay}
 use Rattle.rate.specs.declared.Day.{Day}
+use Rattle.book.specs.Layout.{headerWords}
 use Rattle.book.specs.Soundness.{sound}
 use Rattle.book.specs.Status.{matched}
 use Rattle.book.specs.Answers.{bookRefusal, isDialled, lookup}
 use Rattle.book.specs.declared.Lookup.the-variants.{Found, Refused}
 use Rattle.book.proofs.Matching.{statusOn}
 
-number-test : (s : List ℕ) → numberKey s ≡ cond (isDialled s) (Key (key (map digitOf s))) (NoKey 40)
+number-test : (s : List ℕ) → numberKey s ≡ cond (isDialled s) (Key (key (map digitOf s))) (NoKey notANumber)
 unfolding numberKey isDialled
 number-test s = refl
 
@@ -40,38 +42,39 @@ pub record Dialled (s : List ℕ) (k : ℕ) : Type 0 where
 pub dialled : (s : List ℕ) (k : ℕ) → numberKey s ≡ Key k → Dialled s k
 dialled s k e = go (isDialled s) refl (sym (number-test s) ∙ e)
   where
-    go : (t : Bool) → isDialled s ≡ t → cond t (Key (key (map digitOf s))) (NoKey 40) ≡ Key k → Dialled s k
+    go : (t : Bool) → isDialled s ≡ t → cond t (Key (key (map digitOf s))) (NoKey notANumber) ≡ Key k → Dialled s k
     go true h q =
         let p : key (map digitOf s) ≡ k = cc in
         let d : digitsOfKey k ≡ map digitOf s = ap digitsOfKey (sym p) ∙ dialled-facts s h in
         record { number = h; digits = d; keyed = ap key d ∙ p }
     go false h q = let z : _≡_ {A = ℕ} 0 1 = cc in absurd (omega arith)
 
-pub not-dialled : (s : List ℕ) (e : ℕ) → numberKey s ≡ NoKey e → (isDialled s ≡ false) × (e ≡ 40)
+pub not-dialled : (s : List ℕ) (e : ℕ) → numberKey s ≡ NoKey e → (isDialled s ≡ false) × (e ≡ notANumber)
 not-dialled s e q = go (isDialled s) refl (sym (number-test s) ∙ q)
   where
-    go : (t : Bool) → isDialled s ≡ t → cond t (Key (key (map digitOf s))) (NoKey 40) ≡ NoKey e → (isDialled s ≡ false) × (e ≡ 40)
+    go : (t : Bool) → isDialled s ≡ t → cond t (Key (key (map digitOf s))) (NoKey notANumber) ≡ NoKey e
+        → (isDialled s ≡ false) × (e ≡ notANumber)
     go true h r = let z : _≡_ {A = ℕ} 0 1 = cc in absurd (omega arith)
     go false h r = (h, cc)
 
-refusal-test : (ws : List ℕ) → bookRefusal ws ≡ cond (ltb (length ws) 4) 20 (cond (sound ws) 0 21)
+refusal-test : (ws : List ℕ) → bookRefusal ws ≡ cond (ltb (length ws) headerWords) bookTooShort (cond (sound ws) 0 bookNotSound)
 unfolding bookRefusal
 refusal-test ws = refl
 
 -- What keeps a book from being used, by the tests of the code; one that nothing keeps is sound.
-pub short-book : (ws : List ℕ) → length ws < 4 → bookRefusal ws ≡ 20
-short-book ws h = refusal-test ws ∙ rw (lt-ltb (length ws) 4 h)
+pub short-book : (ws : List ℕ) → length ws < headerWords → bookRefusal ws ≡ bookTooShort
+short-book ws h = refusal-test ws ∙ rw (lt-ltb (length ws) headerWords h)
 
-pub unsound-book : (ws : List ℕ) → 4 ≤ length ws → sound ws ≡ false → bookRefusal ws ≡ 21
-unsound-book ws h s = refusal-test ws ∙ rw (le-ltb (length ws) 4 h, s)
+pub unsound-book : (ws : List ℕ) → headerWords ≤ length ws → sound ws ≡ false → bookRefusal ws ≡ bookNotSound
+unsound-book ws h s = refusal-test ws ∙ rw (le-ltb (length ws) headerWords h, s)
 
-pub usable-book : (ws : List ℕ) → 4 ≤ length ws → sound ws ≡ true → bookRefusal ws ≡ 0
-usable-book ws h s = refusal-test ws ∙ rw (le-ltb (length ws) 4 h, s)
+pub usable-book : (ws : List ℕ) → headerWords ≤ length ws → sound ws ≡ true → bookRefusal ws ≡ 0
+usable-book ws h s = refusal-test ws ∙ rw (le-ltb (length ws) headerWords h, s)
 
 pub usable-sound : (ws : List ℕ) → bookRefusal ws ≡ 0 → sound ws ≡ true
-usable-sound ws e = go (ltb (length ws) 4) (sound ws) refl (sym (refusal-test ws) ∙ e)
+usable-sound ws e = go (ltb (length ws) headerWords) (sound ws) refl (sym (refusal-test ws) ∙ e)
   where
-    go : (t u : Bool) → sound ws ≡ u → _≡_ {A = ℕ} (cond t 20 (cond u 0 21)) 0 → sound ws ≡ true
+    go : (t u : Bool) → sound ws ≡ u → _≡_ {A = ℕ} (cond t bookTooShort (cond u 0 bookNotSound)) 0 → sound ws ≡ true
     go true u h q = absurd (omega arith)
     go false true h q = h
     go false false h q = absurd (omega arith)
@@ -82,8 +85,8 @@ module _ (ws number : List ℕ) (day : Day) where
       lookup ws number day
       ≡ cond (eqb (bookRefusal ws) 0)
       (cond (isDialled number)
-      (cond (isDay day) (Found (matched (statusOn ws (day .0)) (map digitOf number))) (Refused 41))
-      (Refused 40))
+      (cond (isDay day) (Found (matched (statusOn ws (day .0)) (map digitOf number))) (Refused timeOutOfRange))
+      (Refused notANumber))
       (Refused (bookRefusal ws))
   unfolding lookup
   lookup-test = refl
@@ -92,11 +95,11 @@ module _ (ws number : List ℕ) (day : Day) where
   no-book h = lookup-test ∙ rw (ne-eqb (bookRefusal ws) 0 h)
 
   module _ (b : bookRefusal ws ≡ 0) where
-    pub no-number : isDialled number ≡ false → lookup ws number day ≡ Refused 40
+    pub no-number : isDialled number ≡ false → lookup ws number day ≡ Refused notANumber
     no-number h = lookup-test ∙ rw (eq-eqb (bookRefusal ws) 0 b, h)
 
     module _ (n : isDialled number ≡ true) where
-      pub no-day : isDay day ≡ false → lookup ws number day ≡ Refused 41
+      pub no-day : isDay day ≡ false → lookup ws number day ≡ Refused timeOutOfRange
       no-day h = lookup-test ∙ rw (eq-eqb (bookRefusal ws) 0 b, n, h)
 
       pub answered : isDay day ≡ true → lookup ws number day ≡ Found (matched (statusOn ws (day .0)) (map digitOf number))

@@ -3,8 +3,8 @@
 use mathlib.Core.Path.{_≡_, refl, ap, sym, _∙_}
 use mathlib.Core.Bool.{Bool, true, false, false≢true}
 use mathlib.Core.List.{List, [], _∷_}
-use Prim.Native.Nat.{ℕ, zero, suc, _-_, _*_, _%_, _^_, _≤_, _<_}
-use native.Mathlib.Nat.{pow-suc, one-le-pow, pow-le-pow-right}
+use Prim.Native.Nat.{ℕ, zero, suc, _-_, _%_, _^_, _≤_, _<_}
+use native.Mathlib.Nat.{one-le-pow}
 use native.Mathlib.Numerals.{sub-one}
 use native.Mathlib.Omega.{arith}
 use lib.Dec.{lit<}
@@ -47,18 +47,25 @@ module _ (f : ℕ → Offer) (k : ℕ) {o : Offer} {t : Bool} (p : o ≡ f k) (q
   pub found-closed : t ≡ false → isStanding (f k) ≡ false
   found-closed e = ap isStanding (sym p) ∙ sym q ∙ e
 
--- The longest match depends on the statuses of keys alone.
+-- The longest match depends on the statuses of the number's beginnings alone.
 pub longest-same :
     (f g : ℕ → Offer) (ds : List ℕ) (n : ℕ)
-    → ((k : ℕ) → f k ≡ g k)
+    → ((i : ℕ) → f (key (take i ds)) ≡ g (key (take i ds)))
     → longest f ds n ≡ longest g ds n
 unfolding longest
 longest-same f g ds zero e = refl
-longest-same f g ds (suc n) e = rw (e (key (take (suc n) ds)), longest-same f g ds n e)
+longest-same f g ds (suc n) e = rw (e (suc n), longest-same f g ds n e)
 
-pub matched-same : (f g : ℕ → Offer) (ds : List ℕ) → ((k : ℕ) → f k ≡ g k) → matched f ds ≡ matched g ds
+pub matched-alike :
+    (f g : ℕ → Offer) (ds : List ℕ)
+    → ((i : ℕ) → f (key (take i ds)) ≡ g (key (take i ds)))
+    → matched f ds ≡ matched g ds
 unfolding matched
-matched-same f g ds e = longest-same f g ds (length ds) e
+matched-alike f g ds e = longest-same f g ds (length ds) e
+
+-- So it is the same for two books whose statuses agree on all keys.
+pub matched-same : (f g : ℕ → Offer) (ds : List ℕ) → ((k : ℕ) → f k ≡ g k) → matched f ds ≡ matched g ds
+matched-same f g ds e = matched-alike f g ds (λ i. e (key (take i ds)))
 
 -- No try is left, one try, and all digits tried.
 pub no-try : (f : ℕ → Offer) (ds : List ℕ) (n : ℕ) → n ≡ 0 → longest f ds n ≡ answer 0 Closed
@@ -122,6 +129,7 @@ word-digits w =
 abbrev pub statusOn : List ℕ → ℕ → ℕ → Offer
 statusOn ws day k = offerIn (entriesOf ws) k day
 
+-- A status word and what it stands for are the offer.
 pub as-offer :
     (es : List Entry) (k d : ℕ) {w : ℕ} {o : Stored}
     → w ≡ statusIn es k d
@@ -140,6 +148,7 @@ none-at-zero ws day s =
 
 -- A key truncated place by place, in a sound book.
 module _ (ws : List ℕ) (w day : ℕ) (s : sound ws ≡ true) (q : key (digitsOfKey w) ≡ w) where
+  -- The whole key is tried first, then the key of the first 14 digits, and so on.
   pub whole-key :
       matched (statusOn ws day) (digitsOfKey w)
       ≡ standing (statusOn ws day w) w (longest (statusOn ws day) (digitsOfKey w) 14)
@@ -149,6 +158,7 @@ module _ (ws : List ℕ) (w day : ℕ) (s : sound ws ≡ true) (q : key (digitsO
       sym (more-tries (statusOn ws day) ds 15 (none-at-zero ws day s) l)
       ∙ one-try (statusOn ws day) ds 15 w (omega arith) (sym q ∙ ap key (sym (take-all 15 ds l)))
 
+  -- The key of the first n digits is tried, then those of fewer.
   pub truncated :
       (n place : ℕ)
       → 0 < n
@@ -176,14 +186,6 @@ module _ (ws : List ℕ) (w day : ℕ) (s : sound ws ≡ true) (q : key (digitsO
       let k₀ = w - w % place in
       (m ∙ truncated n place h e ∙ passes (statusOn ws day k₀) k₀ _ (rw k at z), z)
 
--- The weight of a place is not 0, and that of the place before it fits a word.
+-- The weight of a place is not 0.
 pub place-some : (n place : ℕ) → place ≡ 11 ^ (15 - n) → 0 < place
 place-some n place e = rw e (one-le-pow (15 - n) 11 (lit< tt))
-
-pub place-before : (n place : ℕ) → 0 < n → n ≤ 14 → place ≡ 11 ^ (15 - n) → place * 11 ≡ 11 ^ (15 - (n - 1))
-place-before n place h l e =
-    let f : 15 - (n - 1) ≡ suc (15 - n) = omega arith in
-    rw (f, pow-suc, e)
-
-pub place-fits : (n place : ℕ) → 0 < n → place ≡ 11 ^ (15 - n) → place ≤ 11 ^ 14
-place-fits n place h e = rw e (pow-le-pow-right (lit< tt) {i = 15 - n} {j = 14} (omega arith))

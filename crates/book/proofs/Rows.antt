@@ -8,7 +8,7 @@ use native.Mathlib.Omega.{arith}
 use borrow.Author.Tests.{eq-eqb, ne-eqb}
 use lib.ListN.{length, getD, drop, set, replicate, drop-of-length-le}
 use lib.Seq.{drop-cons, sets}
-use Rattle.book.specs.Layout.{entry, countOf, entryAt, entriesFrom, entriesOf}
+use Rattle.book.specs.Layout.{headerWords, entryWords, entry, countOf, entryAt, entriesFrom, entriesOf}
 use Rattle.book.specs.Soundness.{begins, follows, soundAfter, soundEntries, allZero}
 use Rattle.book.specs.declared.Entry.{Entry}
 use Rattle.book.proofs.Rules.{none-after, one-after, no-entries, some-entries}
@@ -17,7 +17,8 @@ use Rattle.book.proofs.Rules.{none-after, one-after, no-entries, some-e
 abbrev pub entryIn : List Entry → ℕ → Entry
 entryIn es i = getD es i (entry 0 0 0)
 
-pub of-book : (ws : List ℕ) → entriesOf ws ≡ entriesFrom ws 4 (countOf ws)
+-- The entries of a book, by position and count: none, the first and the others, how many.
+pub of-book : (ws : List ℕ) → entriesOf ws ≡ entriesFrom ws headerWords (countOf ws)
 unfolding entriesOf
 of-book ws = refl
 
@@ -26,7 +27,7 @@ unfolding entriesFrom
 rows-none ws at zero e = refl
 rows-none ws at (suc n) e = absurd (omega arith)
 
-pub rows-step : (ws : List ℕ) (at n : ℕ) → 0 < n → entriesFrom ws at n ≡ entryAt ws at ∷ entriesFrom ws (at + 3) (n - 1)
+pub rows-step : (ws : List ℕ) (at n : ℕ) → 0 < n → entriesFrom ws at n ≡ entryAt ws at ∷ entriesFrom ws (at + entryWords) (n - 1)
 unfolding entriesFrom
 rows-step ws at zero h = absurd (omega arith)
 rows-step ws at (suc n) h = rw sub-one
@@ -34,17 +35,17 @@ rows-step ws at (suc n) h = rw sub-one
 pub length-rows : (ws : List ℕ) (at n : ℕ) → length (entriesFrom ws at n) ≡ n
 unfolding entriesFrom
 length-rows ws at zero = refl
-length-rows ws at (suc n) = ap suc (length-rows ws (at + 3) n)
+length-rows ws at (suc n) = ap suc (length-rows ws (at + entryWords) n)
 
 pub length-entries : (ws : List ℕ) → length (entriesOf ws) ≡ countOf ws
-length-entries ws = ap length (of-book ws) ∙ length-rows ws 4 (countOf ws)
+length-entries ws = ap length (of-book ws) ∙ length-rows ws headerWords (countOf ws)
 
 -- The i-th entry stands 3 × i words further on.
-pub row-at : (ws : List ℕ) (at n i : ℕ) → i < n → entryIn (entriesFrom ws at n) i ≡ entryAt ws (at + i * 3)
+pub row-at : (ws : List ℕ) (at n i : ℕ) → i < n → entryIn (entriesFrom ws at n) i ≡ entryAt ws (at + i * entryWords)
 unfolding entriesFrom
 row-at ws at zero i h = absurd (omega arith)
 row-at ws at (suc n) zero h = ap (entryAt ws) (omega arith)
-row-at ws at (suc n) (suc i) h = row-at ws (at + 3) n i (omega arith) ∙ ap (entryAt ws) (omega arith)
+row-at ws at (suc n) (suc i) h = row-at ws (at + entryWords) n i (omega arith) ∙ ap (entryAt ws) (omega arith)
 
 -- The entries' soundness one entry at a time: none, the first, the one after another, the last.
 module _ (ws : List ℕ) where
@@ -54,15 +55,16 @@ module _ (ws : List ℕ) where
   pub sound-first :
       (n : ℕ) {e : Entry}
       → 0 < n
-      → e ≡ entryAt ws 4
-      → soundEntries (entriesFrom ws 4 n) ≡ (begins e && soundAfter e (entriesFrom ws 7 (n - 1)))
-  sound-first n h q = rw (rows-step ws 4 n h, q) (some-entries _ _)
+      → e ≡ entryAt ws headerWords
+      → soundEntries (entriesFrom ws headerWords n)
+      ≡ (begins e && soundAfter e (entriesFrom ws (headerWords + entryWords) (n - 1)))
+  sound-first n h q = rw (rows-step ws headerWords n h, q) (some-entries _ _)
 
   pub sound-turn :
       (e : Entry) (at n : ℕ) {f : Entry}
       → 0 < n
       → f ≡ entryAt ws at
-      → soundAfter e (entriesFrom ws at n) ≡ (follows e f && soundAfter f (entriesFrom ws (at + 3) (n - 1)))
+      → soundAfter e (entriesFrom ws at n) ≡ (follows e f && soundAfter f (entriesFrom ws (at + entryWords) (n - 1)))
   sound-turn e at n h q = rw (rows-step ws at n h, q) (one-after _ _ _)
 
   pub sound-end : (e : Entry) (at n : ℕ) → n ≡ 0 → soundAfter e (entriesFrom ws at n) ≡ true
@@ -88,6 +90,7 @@ module _ (ws : List ℕ) (i : ℕ) where
       let one : n - i ≡ suc (n - (i + 1)) = omega arith in
       rw (one, add-one)
 
+  -- No word is left to set.
   pub cleared : (n : ℕ) → n ≤ i → ws ≡ sets ws i (replicate (n - i) 0)
   cleared n h =
       let none : n - i ≡ 0 = omega arith in

@@ -9,7 +9,8 @@ use lib.Dec.{eqb, leb, ltb}
 use lib.ListN.{length, drop}
 use Rattle.dial_code.specs.Code.{isCodeKey}
 use Rattle.dial_code.proofs.Tests.{and-left-false, and-left-true, and-right-false, and-right-true}
-use Rattle.rate.specs.Time.{lastDay}
+use Rattle.rate.specs.Time.{lastReceivedDay, lastDay}
+use Rattle.book.specs.Layout.{headerWords, entryWords, mostPeriod}
 use Rattle.book.specs.Layout.{countOf, periodOf, receivedOf, latestOf, entriesOf, held}
 use Rattle.book.specs.Soundness.{isOfferWord, inRange, begins, follows, soundAfter, soundEntries}
 use Rattle.book.specs.Soundness.{allZero, soundHeader, sound}
@@ -55,18 +56,19 @@ pub header-test :
     (ws : List ℕ)
     → soundHeader ws
     ≡ (leb (countOf ws) (held (length ws))
-    && (leb (periodOf ws) 365 && (leb (receivedOf ws) 60000 && leb (latestOf ws) 65000)))
+    && (leb (periodOf ws) mostPeriod && (leb (receivedOf ws) lastReceivedDay && leb (latestOf ws) lastDay)))
 unfolding soundHeader
 header-test ws = refl
 
 pub sound-test :
     (ws : List ℕ)
     → sound ws
-    ≡ (leb 4 (length ws)
-    && (soundHeader ws && (soundEntries (entriesOf ws) && allZero (drop (4 + countOf ws * 3) ws))))
+    ≡ (leb headerWords (length ws)
+    && (soundHeader ws && (soundEntries (entriesOf ws) && allZero (drop (headerWords + countOf ws * entryWords) ws))))
 unfolding sound
 sound-test ws = refl
 
+-- An entry by the tests of the code: out of range, closed at the start, another code's, of the same code.
 module _ (e : Entry) where
   pub late : lastDay < e .day → inRange e ≡ false
   late h = range-test e ∙ and-left-false _ (lt-leb _ _ h)
@@ -114,23 +116,23 @@ module _ (ws : List ℕ) where
   count-over h = header-test ws ∙ and-left-false _ (lt-leb _ _ h)
 
   module _ (n : countOf ws ≤ held (length ws)) where
-    pub period-over : 365 < periodOf ws → soundHeader ws ≡ false
+    pub period-over : mostPeriod < periodOf ws → soundHeader ws ≡ false
     period-over h = header-test ws ∙ and-left-true _ (le-leb _ _ n) ∙ and-left-false _ (lt-leb _ _ h)
 
-    module _ (p : periodOf ws ≤ 365) where
-      pub received-over : 60000 < receivedOf ws → soundHeader ws ≡ false
+    module _ (p : periodOf ws ≤ mostPeriod) where
+      pub received-over : lastReceivedDay < receivedOf ws → soundHeader ws ≡ false
       received-over h =
           header-test ws ∙ and-left-true _ (le-leb _ _ n) ∙ and-left-true _ (le-leb _ _ p) ∙ and-left-false _ (lt-leb _ _ h)
 
-      pub by-latest : receivedOf ws ≤ 60000 → soundHeader ws ≡ leb (latestOf ws) 65000
+      pub by-latest : receivedOf ws ≤ lastReceivedDay → soundHeader ws ≡ leb (latestOf ws) lastDay
       by-latest r =
           header-test ws ∙ and-left-true _ (le-leb _ _ n) ∙ and-left-true _ (le-leb _ _ p) ∙ and-left-true _ (le-leb _ _ r)
 
   -- The book by the tests of the code.
-  pub too-short : length ws < 4 → sound ws ≡ false
+  pub too-short : length ws < headerWords → sound ws ≡ false
   too-short h = sound-test ws ∙ and-left-false _ (lt-leb _ _ h)
 
-  module _ (l : 4 ≤ length ws) where
+  module _ (l : headerWords ≤ length ws) where
     pub bad-header : soundHeader ws ≡ false → sound ws ≡ false
     bad-header h = sound-test ws ∙ and-left-true _ (le-leb _ _ l) ∙ and-left-false _ h
 
@@ -138,5 +140,5 @@ module _ (ws : List ℕ) where
       pub bad-entries : soundEntries (entriesOf ws) ≡ false → sound ws ≡ false
       bad-entries e = sound-test ws ∙ and-left-true _ (le-leb _ _ l) ∙ and-left-true _ h ∙ and-left-false _ e
 
-      pub by-rest : soundEntries (entriesOf ws) ≡ true → sound ws ≡ allZero (drop (4 + countOf ws * 3) ws)
+      pub by-rest : soundEntries (entriesOf ws) ≡ true → sound ws ≡ allZero (drop (headerWords + countOf ws * entryWords) ws)
       by-rest e = sound-test ws ∙ and-left-true _ (le-leb _ _ l) ∙ and-left-true _ h ∙ and-left-true _ e

@@ -10,6 +10,7 @@ use lib.Dec.{eqb, ltb}
 use lib.ListN.{length}
 use Rattle.dial_code.specs.Code.{isCodeKey}
 use Rattle.dial_code.proofs.Tests.{both, and-left-true, Order, below, equal, above, order}
+use Rattle.rate.specs.Time.{lastDay}
 use Rattle.book.specs.Layout.{entriesOf}
 use Rattle.book.specs.Soundness.{isOfferWord, inRange, begins, follows, soundAfter, soundEntries, sound}
 use Rattle.book.specs.declared.Entry.{Entry}
@@ -21,7 +22,7 @@ use Rattle.book.proofs.Headers.{sound-book}
 -- What every entry of a sound list is: the key of an allowed code, a day and an offer word in range.
 pub record Allowed (e : Entry) : Type 0 where
   pub code : isCodeKey (e .key) ≡ true
-  pub day-most : e .day ≤ 65000
+  pub day-most : e .day ≤ lastDay
   pub offer-word : isOfferWord (e .offer) ≡ true
 
 -- An entry after key k, from day n on where it is of the same key, with another status than o, or than closed where it is of
@@ -38,10 +39,10 @@ SoundFrom k n o (e ∷ es) = After k n o e × Allowed e × SoundFrom (e .key) (s
 abbrev pub Sound : List Entry → Type 0
 Sound es = SoundFrom 0 0 0 es
 
-range-facts : (e : Entry) → inRange e ≡ true → (e .day ≤ 65000) × (isOfferWord (e .offer) ≡ true)
+range-facts : (e : Entry) → inRange e ≡ true → (e .day ≤ lastDay) × (isOfferWord (e .offer) ≡ true)
 range-facts e h =
     let a = both _ _ (sym (range-test e) ∙ h) in
-    (leb-true (e .day) 65000 (a .0), a .1)
+    (leb-true (e .day) lastDay (a .0), a .1)
 
 begins-facts : (e : Entry) → begins e ≡ true → (e .offer ≡ 0 → ⊥) × Allowed e
 begins-facts e h =

@@ -9,6 +9,7 @@ use lib.Dec.{eqb, leb}
 use lib.ListN.{length}
 use Rattle.dial_code.specs.Code.{isCodeKey}
 use Rattle.dial_code.proofs.Tests.{and-left-true, and-left-false, and-right-false}
+use Rattle.rate.specs.Time.{lastDay}
 use Rattle.rate.specs.OfferWord.{offerOf, wordOf}
 use Rattle.rate.specs.declared.Stored.{Stored}
 use Rattle.rate.specs.declared.Stored.the-variants.{Holds, Invalid}
@@ -24,6 +25,7 @@ pub data Before (k n x d : ℕ) : Type 0 where
   smaller : x < k → Before k n x d
   earlier : x ≡ k → d < n → Before k n x d
 
+-- What stands before a day stands before the next.
 pub before-on : {k n x d : ℕ} → Before k n x d → Before k (suc n) x d
 before-on (smaller l) = smaller l
 before-on (earlier e l) = earlier e (omega arith)
@@ -162,12 +164,12 @@ status-word k n o w (e ∷ es) x d s h =
 pub stays :
     (k n o w : ℕ) (es : List Entry) (x d : ℕ)
     → SoundFrom k n o es
-    → 65000 ≤ d
-    → statusFrom w es x d ≡ statusFrom w es x 65000
+    → lastDay ≤ d
+    → statusFrom w es x d ≡ statusFrom w es x lastDay
 unfolding statusFrom SoundFrom
 stays k n o w [] x d s h = refl
 stays k n o w (e ∷ es) x d s h =
-    rw (le-leb (e .day) d (omega (arith, s .1 .day-most)), le-leb (e .day) 65000 (s .1 .day-most))
+    rw (le-leb (e .day) d (omega (arith, s .1 .day-most)), le-leb (e .day) lastDay (s .1 .day-most))
     (stays (e .key) (suc (e .day)) (e .offer) (cond (eqb (e .key) x && true) (e .offer) w) es x d (s .2) h)
 
 -- The same of the statuses in a whole sound list; the offer that a status stands for has it as its word.
@@ -176,8 +178,8 @@ module _ (es : List Entry) (x d : ℕ) (s : Sound es) where
   unfolding isOfferWord offerOf
   status-is-word = ap isOfferWord (starts-closed es x d) ∙ status-word 0 0 0 0 es x d s refl
 
-  pub status-stays : 65000 ≤ d → statusIn es x d ≡ statusIn es x 65000
-  status-stays h = starts-closed es x d ∙ stays 0 0 0 0 es x d s h ∙ sym (starts-closed es x 65000)
+  pub status-stays : lastDay ≤ d → statusIn es x d ≡ statusIn es x lastDay
+  status-stays h = starts-closed es x d ∙ stays 0 0 0 0 es x d s h ∙ sym (starts-closed es x lastDay)
 
   pub offer-held : offerOf (statusIn es x d) ≡ Holds (offerIn es x d)
   unfolding offerIn isOfferWord

@@ -5,7 +5,7 @@ ghost use Prim.Native.Nat.{_+_, _-_, _*_, _≤_, _<_};
 ghost use lib.ListN.{length, drop, replicate};
 ghost use lib.Seq.{sets};
 ghost use Rattle.dial_code.specs.Key.{key as keyOf, digitsOfKey};
-ghost use Rattle.book.specs.Layout.{entryAt, entriesFrom, held, entriesOf};
+ghost use Rattle.book.specs.Layout.{headerWords, entryWords, entryAt, entriesFrom, held, entriesOf};
 ghost use Rattle.book.specs.Soundness.{isOfferWord, inRange, begins, follows, soundEntries, allZero, soundHeader, sound};
 ghost use Rattle.book.specs.Status.{statusIn, offerIn, isStanding, matched};
 ghost use Rattle.book.specs.Search.{notAfter};
@@ -42,7 +42,7 @@ pub enum Lookup {
 }
 
 fn entry_at(words: &[u64], at: usize) -> Entry
-    requires { ⌜ at + 3 ≤ length (now words) ⌝ }
+    requires { ⌜ at + entryWords ≤ length (now words) ⌝ }
     ensures { λ r. ⌜ r ≡ entryAt (now (words .entry)) at ⌝ }
 {
     Entry {
@@ -119,8 +119,8 @@ fn can_follow(e: Entry, f: Entry) -> bool
 
 // Whether the first entries are sound, each read once and held against the one before it.
 fn are_sound(words: &[u64], count: usize) -> bool
-    requires { ⌜ 4 + count * 3 ≤ length (now words) ⌝ }
-    ensures { λ r. ⌜ r ≡ soundEntries (entriesFrom (now (words .entry)) 4 count) ⌝ }
+    requires { ⌜ headerWords + count * entryWords ≤ length (now words) ⌝ }
+    ensures { λ r. ⌜ r ≡ soundEntries (entriesFrom (now (words .entry)) headerWords count) ⌝ }
 {
     if count == 0 {
         return true;
@@ -158,7 +158,7 @@ fn is_clear(words: &[u64], from: usize) -> bool
 }
 
 fn is_headed(words: &[u64]) -> bool
-    requires { ⌜ 4 ≤ length (now words) ⌝ }
+    requires { ⌜ headerWords ≤ length (now words) ⌝ }
     ensures { λ r. ⌜ r ≡ soundHeader (now (words .entry)) ⌝ }
 {
     if (entries_held(words.len()) as u64) < words[0] {
@@ -264,10 +264,10 @@ pub fn status_on(words: &[u64], key: u64, day: u64) -> u64
 
 // How many of the first entries stand no later than a code and a day, found by halving.
 fn entries_up_to(words: &[u64], count: usize, key: u64, day: u64) -> usize
-    requires { ⌜ 4 + count * 3 ≤ length (now words) ⌝ }
+    requires { ⌜ headerWords + count * entryWords ≤ length (now words) ⌝ }
     ensures { λ r. ⌜ r ≤ count ⌝ }
-    ensures { λ r. ⌜ (0 < r → notAfter (entryAt (now (words .entry)) (4 + (r - 1) * 3)) key day ≡ true) ⌝ }
-    ensures { λ r. ⌜ (r < count → notAfter (entryAt (now (words .entry)) (4 + r * 3)) key day ≡ false) ⌝ }
+    ensures { λ r. ⌜ (0 < r → notAfter (entryAt (now (words .entry)) (headerWords + (r - 1) * entryWords)) key day ≡ true) ⌝ }
+    ensures { λ r. ⌜ (r < count → notAfter (entryAt (now (words .entry)) (headerWords + r * entryWords)) key day ≡ false) ⌝ }
 {
     let mut lo: usize = 0;
     let mut hi = count;

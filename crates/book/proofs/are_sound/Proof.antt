@@ -7,7 +7,7 @@ use borrow.Author.Needs.{needs}
 use borrow.Author.Tests.{not-true, not-false}
 use lib.ListN.{length}
 use Rattle.dial_code.proofs.Tests.{and-left-false, and-left-true}
-use Rattle.book.specs.Layout.{entriesFrom}
+use Rattle.book.specs.Layout.{headerWords, entryWords, entriesFrom}
 use Rattle.book.specs.Soundness.{soundEntries, soundAfter}
 use Rattle.book.proofs.Rows.{sound-none, sound-first, sound-turn, sound-end}
 use Rattle.book.proofs.are_sound.Statement.{statement}
@@ -15,7 +15,8 @@ use Rattle.book.proofs.are_sound.Tie as tie
 
 abbrev Inv-loop : tie.InvT-loop
 Inv-loop words count before₀ at₀ left₀ before at left =
-    (at + left * 3 ≤ length words) × (soundEntries (entriesFrom words 4 count) ≡ soundAfter before (entriesFrom words at left))
+    (at + left * entryWords ≤ length words)
+    × (soundEntries (entriesFrom words headerWords count) ≡ soundAfter before (entriesFrom words at left))
 
 abbrev μ-loop : tie.MeasureT-loop
 μ-loop words count before₀ at₀ left₀ before at left = left

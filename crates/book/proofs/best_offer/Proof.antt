@@ -8,9 +8,10 @@ use native.Mathlib.Nat.{mod-le}
 use native.Mathlib.Omega.{arith}
 use borrow.Author.Needs.{needs}
 use Rattle.dial_code.specs.Key.{key as keyOf, digitsOfKey}
+use Rattle.dial_code.proofs.CountedKeys.{next-weight, weight-most}
 use Rattle.book.specs.Soundness.{sound}
 use Rattle.book.specs.Status.{isStanding, longest, matched}
-use Rattle.book.proofs.Matching.{statusOn, passes, no-try, whole-key, truncated, place-some, place-before, place-fits}
+use Rattle.book.proofs.Matching.{statusOn, passes, no-try, whole-key, truncated, place-some}
 use Rattle.book.proofs.Matching.{found-standing, found-closed, closed-try}
 use Rattle.book.proofs.best_offer.Statement.{statement}
 use Rattle.book.proofs.best_offer.Tie as tie
@@ -77,7 +78,7 @@ returns-2 c s q =
     ∙ found-standing st _ (p .offer-on2 .ensures s) (c .before .is-standing2 .ensures) _ (c .if3 .taken))
 
 mul-place : tie.Need-mul-place Inv-loop μ-loop
-mul-place c = omega (arith, place-fits _ _ (c .before .loop-test .taken) (c .before .before .loop .inv .1))
+mul-place c = omega (arith, weight-most _ _ (c .before .loop-test .taken) (c .before .before .loop .inv .1))
 
 sub-n : tie.Need-sub-n Inv-loop μ-loop
 sub-n c = search needs
@@ -92,7 +93,7 @@ loop-again c =
     let h = c .before .loop-test .taken in
     let st = statusOn (a .words .now) (a .day) in (
       omega arith,
-      place-before _ _ h (l .inv .0) (l .inv .1),
+      next-weight _ _ h (omega arith) (l .inv .1),
       λ s q.
           let i = l .inv .2 s q in
           let again = closed-try (a .words .now) (a .key) (a .day) s q (l .n) (l .place) (c .if2 .last) (i .0) h (l .inv .1) in

@@ -5,7 +5,7 @@ use mathlib.Core.Bool.{true, false}
 use Prim.Native.Nat.{_+_, _-_, _*_, _≤_, _<_}
 use native.Mathlib.Omega.{arith}
 use borrow.Author.Needs.{needs}
-use Rattle.book.specs.Layout.{entryAt}
+use Rattle.book.specs.Layout.{headerWords, entryWords, entryAt}
 use Rattle.book.specs.Search.{notAfter}
 use Rattle.book.proofs.Halving.{middle, passed, meets}
 use Rattle.book.proofs.entries_up_to.Statement.{statement}
@@ -15,8 +15,8 @@ abbrev Inv-loop : tie.InvT-loop
 Inv-loop words count key day lo₀ hi₀ lo hi =
     (lo ≤ hi)
     × (hi ≤ count)
-    × (0 < lo → notAfter (entryAt words (4 + (lo - 1) * 3)) key day ≡ true)
-    × (hi < count → notAfter (entryAt words (4 + hi * 3)) key day ≡ false)
+    × (0 < lo → notAfter (entryAt words (headerWords + (lo - 1) * entryWords)) key day ≡ true)
+    × (hi < count → notAfter (entryAt words (headerWords + hi * entryWords)) key day ≡ false)
 
 abbrev μ-loop : tie.MeasureT-loop
 μ-loop words count key day lo₀ hi₀ lo hi = hi - lo

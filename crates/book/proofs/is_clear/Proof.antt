@@ -26,7 +26,7 @@ shared-slice-read-if1 : tie.Need-shared-slice-read-if1 Inv-loop μ-loop
 shared-slice-read-if1 c = search needs
 
 returns : tie.Need-returns Inv-loop μ-loop
-returns c = let p = c .before .before in sym (p .before .loop .inv ∙ not-zero _ _ (p .loop-test .taken) (c .if1 .taken))
+returns c = let p = c .before .before in sym (p .before .loop .inv ∙ not-zero _ _ (p .loop-test .taken) (λ z. omega arith))
 
 add-i : tie.Need-add-i Inv-loop μ-loop
 add-i c = search needs

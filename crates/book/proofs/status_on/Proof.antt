@@ -7,6 +7,7 @@ use native.Mathlib.Omega.{arith}
 use borrow.Author.Needs.{needs}
 use borrow.Author.Tests.{not-true, not-false}
 use lib.ListN.{length}
+use Rattle.book.specs.Layout.{headerWords, entryWords}
 use Rattle.book.proofs.Rules.{too-short, bad-header}
 use Rattle.book.proofs.Headers.{Headed, headed}
 use Rattle.book.proofs.Halving.{nothing-before, own-entry, other-entry}
@@ -22,7 +23,7 @@ head c =
 within :
     (c : tie.Else3)
     → let ws = c .before .before .before .before .before .before .before .args .words .now in
-    4 + (c .before .entries-up-to .result - 1) * 3 + 3 ≤ length ws
+    headerWords + (c .before .entries-up-to .result - 1) * entryWords + 3 ≤ length ws
 within c = omega (arith, head (c .before .before .before) .room, c .before .entries-up-to .ensures .0, c .if3 .left)
 
 returns : tie.Need-returns

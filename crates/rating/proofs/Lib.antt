@@ -1,0 +1,2 @@
+-- The laws of rating calls.
+pub mod Calls

@@ -1,0 +1,2 @@
+-- The rules of rating calls.
+pub mod Call
