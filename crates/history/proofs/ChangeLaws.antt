@@ -15,21 +15,9 @@ use Rattle.book.specs.Layout.{entry}
 use Rattle.book.specs.Soundness.{isOfferWord, soundEntries}
 use Rattle.book.specs.Status.{statusFrom, statusIn}
 use Rattle.book.specs.declared.Entry.{Entry}
+use Rattle.book.proofs.Statuses.{gives, other-key, later-day}
 use Rattle.book.proofs.SoundLists.{Allowed, After, same, next, SoundFrom, Sound, from-sound}
 use Rattle.history.specs.ChangeDays.{changesFrom, codeChanges, keyChanges, changeDays}
-
--- the status so far after one entry
-miss-key : (w : ℕ) (e : Entry) (es : List Entry) (k d : ℕ) → (e .key ≡ k → ⊥) → statusFrom w (e ∷ es) k d ≡ statusFrom w es k d
-unfolding statusFrom
-miss-key w e es k d h = rw (ne-eqb (e .key) k h)
-
-miss-day : (w : ℕ) (e : Entry) (es : List Entry) (k d : ℕ) → d < e .day → statusFrom w (e ∷ es) k d ≡ statusFrom w es k d
-unfolding statusFrom
-miss-day w e es k d h = ap (λ (t : Bool). statusFrom (cond t (e .offer) w) es k d) (and-right-false (eqb (e .key) k) (lt-leb (e .day) d h))
-
-hit : (w : ℕ) (e : Entry) (es : List Entry) (k d : ℕ) → e .key ≡ k → e .day ≤ d → statusFrom w (e ∷ es) k d ≡ statusFrom (e .offer) es k d
-unfolding statusFrom
-hit w e es k d h l = rw (eq-eqb (e .key) k h, le-leb (e .day) d l)
 
 pub status-append : (w : ℕ) (es fs : List Entry) (k d : ℕ) → statusFrom w (es ++ fs) k d ≡ statusFrom (statusFrom w es k d) fs k d
 unfolding statusFrom
@@ -55,21 +43,21 @@ module _ (word : ℕ → ℕ → ℕ) (k : ℕ) where
   changes-other x h w before d zero y = refl
   changes-other x h w before d (suc n) y =
       let rest = changes-other x h w (word k d) (d + 1) n y in
-      changes-step (λ (es : List Entry). statusFrom w es x y ≡ w) before d n (λ e. rest) (λ q. miss-key w (entry k d (word k d)) (changesFrom word k (word k d) (d + 1) n) x y h ∙ rest)
+      changes-step (λ (es : List Entry). statusFrom w es x y ≡ w) before d n (λ e. rest) (λ q. other-key w (entry k d (word k d)) (changesFrom word k (word k d) (d + 1) n) x y h ∙ rest)
 
   changes-later : (w before d n y : ℕ) → y < d → statusFrom w (changesFrom word k before d n) k y ≡ w
   unfolding changesFrom statusFrom
   changes-later w before d zero y h = refl
   changes-later w before d (suc n) y h =
       let rest = changes-later w (word k d) (d + 1) n y (omega arith) in
-      changes-step (λ (es : List Entry). statusFrom w es k y ≡ w) before d n (λ e. rest) (λ q. miss-day w (entry k d (word k d)) (changesFrom word k (word k d) (d + 1) n) k y h ∙ rest)
+      changes-step (λ (es : List Entry). statusFrom w es k y ≡ w) before d n (λ e. rest) (λ q. later-day w (entry k d (word k d)) (changesFrom word k (word k d) (d + 1) n) k y h ∙ rest)
 
   -- a day's status from the day's word on
   from-word : (before d n y : ℕ) {r : ℕ} → d ≤ y → statusFrom (word k d) (changesFrom word k (word k d) (d + 1) n) k y ≡ r → statusFrom before (changesFrom word k before d (suc n)) k y ≡ r
   from-word before d n y {r} h e =
       changes-step (λ (es : List Entry). statusFrom before es k y ≡ r) before d n
       (λ q. ap (λ (w : ℕ). statusFrom w (changesFrom word k (word k d) (d + 1) n) k y) (sym q) ∙ e)
-      (λ q. hit before _ _ k y refl h ∙ e)
+      (λ q. gives before _ _ k y refl h ∙ e)
 
   changes-here : (before d n y : ℕ) → d ≤ y → y < d + n → statusFrom before (changesFrom word k before d n) k y ≡ word k y
   changes-here before d zero y h l = absurd (omega arith)

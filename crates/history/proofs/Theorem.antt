@@ -5,7 +5,7 @@ use mathlib.Core.Bool.{Bool, true, false, cond, true≢false}
 use mathlib.Core.List.{List, [], _∷_, map}
 use Prim.Native.Nat.{ℕ, zero, suc, _≤_, _<_}
 use native.Mathlib.Omega.{arith}
-use borrow.Author.Tests.{lt-ltb, le-ltb, ltb-true, ltb-false, leb-true, eq-eqb, eqb-true, ne-eqb}
+use borrow.Author.Tests.{ltb-false, leb-true, eq-eqb, eqb-true}
 use lib.Dec.{eqb, leb, ltb}
 use lib.ListN.{length}
 use Rattle.refusal.specs.Refusal.{receivedEarlier, bookFull}
@@ -23,6 +23,7 @@ use Rattle.book.specs.declared.Entry.{Entry}
 use Rattle.book.specs.declared.Lookup.{Lookup}
 use Rattle.book.specs.declared.Lookup.the-variants.{Found}
 use Rattle.book.proofs.Headers.{SoundBook, sound-book}
+use Rattle.book.proofs.Lookups.{usable-book}
 use Rattle.book.proofs.BookWords.{entries-back, sound-back}
 use Rattle.book.proofs.FreshBooks.{fresh-sound, fresh-entries}
 use Rattle.notice.proofs.NoticeLaws.{notice-refusals}
@@ -43,8 +44,7 @@ pub record Linked (ws : List ℕ) (period : ℕ) (accepted : List Notice) : Type
 
 -- a sound book is not refused
 usable : (ws : List ℕ) → sound ws ≡ true → bookRefusal ws ≡ 0
-unfolding bookRefusal
-usable ws h = rw (le-ltb (length ws) 4 (sound-book ws h .four), h)
+usable ws h = usable-book ws (sound-book ws h .four) h
 
 module _ (ws : List ℕ) (period : ℕ) (accepted : List Notice) (l : Linked ws period accepted) where
   -- the entries that an apply would write are the machine's change days with the notice appended

@@ -5,25 +5,26 @@ use mathlib.Core.Bool.{Bool, true, false, cond, _&&_, _||_, or-false, or-true}
 use mathlib.Core.List.{List, [], _∷_}
 use Prim.Native.Nat.{ℕ, zero, suc, _+_, _-_, _*_, _^_, _≤_, _<_}
 use native.Mathlib.Omega.{arith}
-use borrow.Author.Tests.{lt-ltb, le-ltb, eq-eqb, ne-eqb, eqb-true, eqb-false, ltb-true}
+use borrow.Author.Tests.{lt-ltb, le-ltb, eq-eqb, ne-eqb, eqb-true, eqb-false}
 use native.Mathlib.Nat.{pow-le-pow-right, lt-of-lt-of-le}
 use lib.Dec.{eqb, leb, ltb, lit<}
 use lib.ListN.{length, getD, set, take, replicate, length-set, length-take, length-replicate, getD-replicate}
 use lib.Seq.{getD-set-same, getD-set-other, set-out}
 use Rattle.dial_code.specs.Digits.{every, isDigit, value}
-use Rattle.dial_code.specs.Key.{keysEnd, placesOf, digitsOfKey}
+use Rattle.dial_code.specs.Key.{digitsOfKey}
 use Rattle.dial_code.specs.CountryCode.{oneDigit, twoDigits, countryDigits, country, countryOfKey}
 use Rattle.dial_code.specs.declared.Country.{Country}
 use Rattle.dial_code.specs.declared.Country.the-variants.{Code, None}
 use Rattle.dial_code.proofs.Tests.{both, and-left-true}
 use Rattle.dial_code.proofs.DigitLaws.{value-below}
-use Rattle.dial_code.proofs.CodeLaws.{digits-places}
+use Rattle.book.proofs.Matching.{word-digits}
 use Rattle.notice.specs.NoticeRule.{Notice, full, partial, replacement}
 use Rattle.notice.specs.declared.Line.{Line}
 use Rattle.notice.specs.declared.Summary.{Summary}
 use Rattle.history.specs.Effect.{sameCountry, namedBy, inCountry, closes}
 use Rattle.update.specs.Plans.{planOf, marked, marksOf, noMarks, marksFor, isMarked, closesIn, closesBy}
 use Rattle.update.proofs.PlanLaws.{Summed}
+use Rattle.update.proofs.Planning.{length-marked}
 
 -- a mark below the table's length
 marked-at :
@@ -43,10 +44,6 @@ marked-at c (Code b) marks h l = go (eqb b c) refl
         rw (lt-ltb c 1000 h) (eq-eqb (getD (set marks b 1) c 0) 1 v)
     go false e =
         rw (lt-ltb c 1000 h) (ap (λ (v : ℕ). eqb v 1) (getD-set-other marks b c 1 0 (λ q. eqb-false b c e (sym q))))
-
-length-marked : (x : Country) (marks : List ℕ) → length (marked x marks) ≡ length marks
-length-marked None marks = refl
-length-marked (Code c) marks = length-set marks c 1
 
 -- A country is marked where some line has it.
 marks-name :
@@ -112,26 +109,21 @@ country-few ds c e q = go (leb (countryDigits ds) (length ds)) q
   where
     first : List ℕ
     first = take (countryDigits ds) ds
+
     short : length first ≤ 3
     short = rw (length-take (countryDigits ds) ds) (omega (arith, few-digits ds))
+
     small : value first < 1000
     small = lt-of-lt-of-le (value-below first (digits-taken (countryDigits ds) ds e)) (pow-le-pow-right (lit< tt) {i = length first} {j = 3} short)
+
     go : (t : Bool) → cond t (Code (value first)) None ≡ Code c → c < 1000
     go true r = let w : value first ≡ c = cc in omega (arith, small, w)
     go false r = let z : _≡_ {A = ℕ} 0 1 = cc in absurd (omega arith)
 
-key-digits : (w : ℕ) → every isDigit (digitsOfKey w) ≡ true
-unfolding digitsOfKey
-key-digits w = go (ltb w keysEnd) refl
-  where
-    go : (t : Bool) → ltb w keysEnd ≡ t → every isDigit (cond t (placesOf 15 w) []) ≡ true
-    go true e = digits-places 15 w (ltb-true w keysEnd e)
-    go false e = refl
-
 -- A country's value is below 1,000.
 pub country-below : (w c : ℕ) → countryOfKey w ≡ Code c → c < 1000
 unfolding countryOfKey
-country-below w c e = country-few (digitsOfKey w) c (key-digits w) e
+country-below w c e = country-few (digitsOfKey w) c (word-digits w .0) e
 
 -- A code that is not listed is closed by the plan and the marks exactly where the notice closes it.
 pub closes-is :
@@ -147,10 +139,12 @@ closes-is m n s period latest k =
   where
     marks : List ℕ
     marks = marksFor (m .kind) (n .lines)
+
     unnamed : (t u : Bool) → namedBy (n .lines) k ≡ false → false ≡ cond t (namedBy (n .lines) k) (cond u false false)
     unnamed true u e = sym e
     unnamed false true e = refl
     unnamed false false e = refl
+
     by-marks : (c : ℕ) → countryOfKey k ≡ Code c → (t : Bool) (x : Bool)
         → cond t (isMarked (cond t (marksOf noMarks (n .lines)) noMarks) c) x ≡ cond t (namedBy (n .lines) k) x
     by-marks c e true x =
@@ -158,6 +152,7 @@ closes-is m n s period latest k =
         ∙ ap (λ (t : Bool). namedBy (n .lines) k || t) (none-marked c (country-below k c e))
         ∙ or-false (namedBy (n .lines) k)
     by-marks c e false x = refl
+
     by-country : (x : Country) → countryOfKey k ≡ x
         → closesIn (planOf m period latest) marks x
         ≡ cond (eqb (m .kind) 2) (namedBy (n .lines) k) (cond (eqb (m .kind) 4) (inCountry (m .country) x) false)

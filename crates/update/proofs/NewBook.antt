@@ -7,7 +7,8 @@ use lib.ListN.{length, set, replicate, length-append, length-replicate, drop-of-
 use lib.Seq.{sets, sets-eq, length-sets}
 use Rattle.book.specs.Layout.{wordsOf, bookOf}
 use Rattle.book.specs.declared.Entry.{Entry}
-use Rattle.update.proofs.Stores.{sets-on, length-words}
+use Rattle.book.proofs.BookWords.{length-words}
+use Rattle.update.proofs.Stores.{sets-on}
 
 -- The header before all other words.
 heads : (new ws : List ℕ) (n period received latest : ℕ) → 4 ≤ length new → 4 + length ws ≡ length new

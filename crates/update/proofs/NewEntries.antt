@@ -81,9 +81,10 @@ changes-allowed :
     → AllAllowed (changesBy p k ls)
 unfolding AllAllowed changesBy changeBy
 changes-allowed p k [] g h = tt
-changes-allowed p k (l ∷ ls) g h =
-    (record { code = g .0 .code; day-most = h l (g .0); offer-word = is-word (l .offer) (g .0 .offer) },
-    changes-allowed p k ls (g .1) h)
+changes-allowed p k (l ∷ ls) g h = (
+  record { code = g .0 .code; day-most = h l (g .0); offer-word = is-word (l .offer) (g .0 .offer) },
+  changes-allowed p k ls (g .1) h,
+)
 
 -- a word after a change, on a day
 word-after : (t : Bool) (o q : Offer) (w : ℕ) → wordOf q ≡ w → cond t (wordOf o) w ≡ wordOf (cond t o q)
@@ -167,6 +168,7 @@ pub new-facts :
     × (latestBy (planOf m (periodOf ws) (latestOf ws)) (inBook ws) (latestOf ws) (p .sent .lines) ≡ afterBook ws (p .sent) .latest)
 new-facts ws s m h p =
     let n = p .sent in
-    let f : Summed m (p .sent) = record { kind = p .kind; country = p .country; received = p .received; earliest-day = p .earliest-day } in
-    (merged-is ws m n h (notice-valid s n (p .read)) (good s n (p .read)) f,
-    latest-is m n f (periodOf ws) (inBook ws) (sound-book ws h .header .latest-most) (n .lines))
+    let f : Summed m (p .sent) = record { kind = p .kind; country = p .country; received = p .received; earliest-day = p .earliest-day } in (
+      merged-is ws m n h (notice-valid s n (p .read)) (good s n (p .read)) f,
+      latest-is m n f (periodOf ws) (inBook ws) (sound-book ws h .header .latest-most) (n .lines),
+    )

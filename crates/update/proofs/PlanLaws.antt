@@ -87,13 +87,16 @@ module _ (m : Summary) (n : Notice) (s : Summed m n) (period : ℕ) (before : Kn
     where
       wait : ℕ
       wait = max (max (n .received) (earliest (n .lines))) (n .received + period)
+
       same-fields : cond (eqb (m .kind) replacement) (max (max (m .received) (m .earliest)) (m .received + period)) (m .received + period) ≡ cond (eqb (n .kind) replacement) wait (n .received + period)
       same-fields =
           ap₂ (λ (k r : ℕ). cond (eqb k replacement) (max (max r (m .earliest)) (r + period)) (r + period)) (sym (s .kind)) (sym (s .received))
           ∙ ap (λ (e : ℕ). cond (eqb (n .kind) replacement) (max (max (n .received) e) (n .received + period)) (n .received + period)) (sym (s .earliest-day))
+
       first : (ls : List Line) → 1 ≤ length ls → n .kind ≡ 4 → ValidFrom (n .country) 0 0 ls → max (max (n .received) (earliest ls)) (n .received + period) ≡ firstNoticed period n ls
       first [] h k w = absurd (omega arith)
       first (l ∷ ls) h k w = ap (λ (d : ℕ). max (max (n .received) d) (n .received + period)) (first-day (n .country) l ls (v .named k) w)
+
       go : (t : Bool) → eqb (n .kind) replacement ≡ t → cond (eqb (m .kind) replacement) (max (max (m .received) (m .earliest)) (m .received + period)) (m .received + period) ≡ cond (eqb (n .kind) replacement) (firstNoticed period n (n .lines)) (floorOf period n)
       go true e = same-fields ∙ rw e (first (n .lines) (v .some-lines) (eqb-true _ _ e) (v .lines-valid))
       go false e = same-fields ∙ rw e

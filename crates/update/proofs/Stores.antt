@@ -9,6 +9,7 @@ use lib.ListN.{length, set, length-append}
 use lib.Seq.{sets, length-sets}
 use Rattle.book.specs.Layout.{wordsOf}
 use Rattle.book.specs.declared.Entry.{Entry}
+use Rattle.book.proofs.BookWords.{length-words}
 use Rattle.update.specs.Plans.{stored}
 
 pub stored-nil : (write : Bool) (l : List ℕ) (i : ℕ) → stored write l i [] ≡ l
@@ -34,11 +35,6 @@ stored-on false l i xs ys = refl
 pub no-words : wordsOf [] ≡ []
 unfolding wordsOf
 no-words = refl
-
-pub length-words : (es : List Entry) → length (wordsOf es) ≡ length es * 3
-unfolding wordsOf
-length-words [] = refl
-length-words (e ∷ es) = omega (arith, length-words es)
 
 pub words-on : (es fs : List Entry) → wordsOf (es ++ fs) ≡ wordsOf es ++ wordsOf fs
 unfolding wordsOf
