@@ -3,3 +3,6 @@ pub mod ChangeLaws
 pub mod Keeping
 pub mod Books
 pub mod Theorem
+pub mod Outside
+pub mod Space
+pub mod Corollaries

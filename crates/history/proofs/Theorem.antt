@@ -48,7 +48,7 @@ usable ws h = usable-book ws (sound-book ws h .four) h
 
 module _ (ws : List ℕ) (period : ℕ) (accepted : List Notice) (l : Linked ws period accepted) where
   -- the entries that an apply would write are the machine's change days with the notice appended
-  same-entries : (n : Notice) → newEntries ws n ≡ changeDays (words (known period (n ∷ accepted)))
+  pub same-entries : (n : Notice) → newEntries ws n ≡ changeDays (words (known period (n ∷ accepted)))
   unfolding newEntries known
   same-entries n =
       ap₂ (λ (p : ℕ) (k : Known). changeDays (words (afterNotice p k n))) (l .period-is) (l .known-is)
@@ -101,7 +101,7 @@ accepted-facts ws bytes len h e = by-length (ltb len 4) refl (rw (usable ws h) a
     by-length false p z = by-reading (ltb-false len 4 p) (readNotice bytes) refl z
 
 -- What an accepted apply leaves is the new book.
-accepted-words : (ws bytes new : List ℕ) → applyRefusal ws bytes (length new) ≡ 0 → (n : Notice) → readNotice bytes ≡ notice n → applied ws bytes new ≡ newBook ws (length new) n
+pub accepted-words : (ws bytes new : List ℕ) → applyRefusal ws bytes (length new) ≡ 0 → (n : Notice) → readNotice bytes ≡ notice n → applied ws bytes new ≡ newBook ws (length new) n
 unfolding applied
 accepted-words ws bytes new e n q = rw (eq-eqb (applyRefusal ws bytes (length new)) 0 e, q)
 
@@ -157,7 +157,7 @@ same-answers ws period accepted (a ∷ later) l =
     ap₂ _∷_ (same-answer ws period accepted l (a .bytes) (length (a .new)))
     (same-answers (current ws a) period (accepts period accepted a) later (step ws period accepted a l))
 
-left-linked : (ws : List ℕ) (period : ℕ) (accepted : List Notice) (all : List Apply) → Linked ws period accepted → Linked (bookLeft ws all) period (acceptedBy period accepted all)
+pub left-linked : (ws : List ℕ) (period : ℕ) (accepted : List Notice) (all : List Apply) → Linked ws period accepted → Linked (bookLeft ws all) period (acceptedBy period accepted all)
 unfolding bookLeft acceptedBy
 left-linked ws period accepted [] l = l
 left-linked ws period accepted (a ∷ later) l =
@@ -189,7 +189,7 @@ unfolding offerIn statusIn offerOf
 nothing-held x d = refl
 
 -- A fresh book stands where the fresh machine does.
-fresh-linked : (len period : ℕ) → freshRefusal len period ≡ 0 → Linked (freshBook len period) period []
+pub fresh-linked : (len period : ℕ) → freshRefusal len period ≡ 0 → Linked (freshBook len period) period []
 unfolding freshBook bookOf known
 fresh-linked len period e =
     record {

@@ -1,0 +1,2 @@
+-- The demands of document 01 that are theorems, stated again in full.
+pub mod DemandThree

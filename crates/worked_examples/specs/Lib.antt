@@ -1,0 +1,2 @@
+-- The notices of the worked examples.
+pub mod Sent
