@@ -15,9 +15,9 @@ use rate::Day;
 use rate::Offer;
 use rate::Stored;
 
-const HEADER_WORDS: usize = 4;
+pub const HEADER_WORDS: usize = 4;
 
-const ENTRY_WORDS: usize = 3;
+pub const ENTRY_WORDS: usize = 3;
 
 const MOST_ENTRIES: usize = 65_535;
 

@@ -105,12 +105,12 @@ has-country ds = go (leb (countryDigits ds) (length ds))
     go true = refl
     go false = refl
 
--- the rules' tests, taken apart one at a time
-code-test : (w : ℕ) → isCodeKey w ≡ (eqb (key (digitsOfKey w)) w && isCode (digitsOfKey w))
+-- The rules' tests, taken apart one at a time.
+pub code-test : (w : ℕ) → isCodeKey w ≡ (eqb (key (digitsOfKey w)) w && isCode (digitsOfKey w))
 unfolding isCodeKey
 code-test w = refl
 
-country-test : (ds : List ℕ) → isCode ds ≡ (isNumber ds && leb (countryDigits ds) (length ds))
+pub country-test : (ds : List ℕ) → isCode ds ≡ (isNumber ds && leb (countryDigits ds) (length ds))
 unfolding isCode
 country-test ds = refl
 

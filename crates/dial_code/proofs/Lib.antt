@@ -5,5 +5,6 @@ pub mod KeyLaws
 pub mod Powers
 pub mod CountryLaws
 pub mod CodeLaws
+pub mod KeyCode
 pub mod Spelling
 pub mod CountedKeys

@@ -5,9 +5,10 @@ use mathlib.Core.List.{List, [], _∷_}
 use Prim.Native.Nat.{ℕ, _+_}
 use lib.ListN.{length}
 use lib.Dec.{eqb, leb, ltb}
-use Rattle.dial_code.specs.Digits.{isNumber}
+use Rattle.dial_code.specs.Digits.{isNumber, value}
 use Rattle.dial_code.specs.Key.{key, digitsOfKey, keysEnd}
 use Rattle.dial_code.specs.CountryCode.{countryDigits}
+use Rattle.dial_code.specs.declared.Code.{Code}
 
 -- An allowed code: 1 to 15 digits, the first not 0, and not shorter than its country code (000, 2i).
 unfoldable pub isCode : List ℕ → Bool
@@ -18,6 +19,11 @@ isCode ds = isNumber ds && leb (countryDigits ds) (length ds)
 unfoldable pub isCodeKey : ℕ → Bool
 unfolding key digitsOfKey isCode
 isCodeKey w = eqb (key (digitsOfKey w)) w && isCode (digitsOfKey w)
+
+-- The code that a word is the key of, as it is sent: how many digits it has, and their value.
+unfoldable pub codeOf : ℕ → Code
+unfolding digitsOfKey value
+codeOf w = record { count = length (digitsOfKey w); value = value (digitsOfKey w) }
 
 -- Dictionary order: a digit string stands before its extensions.
 unfoldable pub precedes : List ℕ → List ℕ → Bool
@@ -52,6 +58,17 @@ code-keys :
     ≡ true ∷ false ∷ false ∷ false ∷ false ∷ false ∷ false ∷ []
 unfolding isCodeKey
 code-keys = refl
+
+-- 23480, 007, and words that are no key: 0, and the keys' end
+sent :
+    codeOf (key (2 ∷ 3 ∷ 4 ∷ 8 ∷ 0 ∷ [])) ∷ codeOf (key (0 ∷ 0 ∷ 7 ∷ [])) ∷ codeOf 0 ∷ codeOf keysEnd ∷ []
+    ≡ record { count = 5; value = 23480 }
+    ∷ record { count = 3; value = 7 }
+    ∷ record { count = 0; value = 0 }
+    ∷ record { count = 0; value = 0 }
+    ∷ []
+unfolding codeOf key
+sent = refl
 
 order :
     precedes (1 ∷ []) (1 ∷ 0 ∷ [])

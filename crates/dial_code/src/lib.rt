@@ -4,12 +4,12 @@ ghost use Prim.Native.Nat.{_<_, _^_};
 ghost use lib.Dec.{eqb};
 ghost use Rattle.dial_code.specs.Key.{codeKey, numberKey, prefixKey, key, placesOf};
 ghost use Rattle.dial_code.specs.CountryCode.{countryOf, countryOfKey, twoDigits};
-ghost use Rattle.dial_code.specs.Code.{isCodeKey};
+ghost use Rattle.dial_code.specs.Code.{isCodeKey, codeOf};
 
 // At most so many digits.
-const MOST_DIGITS: u64 = 15;
+pub const MOST_DIGITS: u64 = 15;
 // Every key is below this, 11 to the power 15.
-const KEYS_END: u64 = 4_177_248_169_415_651;
+pub const KEYS_END: u64 = 4_177_248_169_415_651;
 // The weight of a key's first place, 11 to the power 14, and of its third, 11 to the power 12.
 const FIRST_PLACE: u64 = 379_749_833_583_241;
 
@@ -29,6 +29,12 @@ pub enum Keyed {
 pub enum Country {
     Code(u64),
     None,
+}
+
+// A code as it is sent: how many digits it has, and their value.
+pub struct Code {
+    pub count: u64,
+    pub value: u64,
 }
 
 fn wide(x: u8) -> u64
@@ -117,6 +123,33 @@ pub fn prefix_key(key: u64, n: u64) -> u64
         return key;
     }
     key - key % power(11, MOST_DIGITS - n)
+}
+
+// The count of digits and the value of the code that a word is the key of.
+pub fn key_code(key: u64) -> Code
+    ensures { λ r. ⌜ r ≡ codeOf key ⌝ }
+{
+    if KEYS_END <= key {
+        return Code { count: 0, value: 0 };
+    }
+    let mut rest = key;
+    let mut left: u64 = MOST_DIGITS;
+    let mut value: u64 = 0;
+    while 0 < left {
+        if rest < FIRST_PLACE {
+            return Code {
+                count: MOST_DIGITS - left,
+                value,
+            };
+        }
+        value = value * 10 + (rest / FIRST_PLACE - 1);
+        rest = rest % FIRST_PLACE * 11;
+        left -= 1;
+    }
+    Code {
+        count: MOST_DIGITS,
+        value,
+    }
 }
 
 // Whether a value below 100 is a country code of two digits.

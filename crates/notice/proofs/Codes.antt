@@ -41,7 +41,7 @@ code-opens : (ds : List ℕ) → isCode ds ≡ (isNumber ds && leb (countryDigit
 unfolding isCode
 code-opens ds = refl
 
-country-opens : (ds : List ℕ)
+pub country-opens : (ds : List ℕ)
     → country ds ≡ cond (leb (countryDigits ds) (length ds)) (Code (value (take (countryDigits ds) ds))) None
 unfolding country
 country-opens ds = refl
@@ -52,14 +52,14 @@ code-facts ds e =
     let p = both (isNumber ds) (leb (countryDigits ds) (length ds)) (sym (code-opens ds) ∙ e) in
     (p .0, leb-true _ _ (p .1))
 
-digits-take : (n : ℕ) (ds : List ℕ) → every isDigit ds ≡ true → every isDigit (take n ds) ≡ true
+pub digits-take : (n : ℕ) (ds : List ℕ) → every isDigit ds ≡ true → every isDigit (take n ds) ≡ true
 digits-take zero ds e = refl
 digits-take (suc n) [] e = refl
 digits-take (suc n) (d ∷ ds) e =
     let p = both (isDigit d) (every isDigit ds) e in
     and-left-true (every isDigit (take n ds)) (p .0) ∙ digits-take n ds (p .1)
 
-first-some : (d : ℕ) (ds : List ℕ) → isNumber (d ∷ ds) ≡ true → 0 < d
+pub first-some : (d : ℕ) (ds : List ℕ) → isNumber (d ∷ ds) ≡ true → 0 < d
 first-some d ds e =
     elim (order 0 d) [
       | below h ↦ h
@@ -68,7 +68,7 @@ first-some d ds e =
     ]
 
 -- A number is worth at least its first place.
-value-least : (d : ℕ) (ds : List ℕ) → isNumber (d ∷ ds) ≡ true → 10 ^ length ds ≤ value (d ∷ ds)
+pub value-least : (d : ℕ) (ds : List ℕ) → isNumber (d ∷ ds) ≡ true → 10 ^ length ds ≤ value (d ∷ ds)
 unfolding value
 value-least d ds e = omega (arith, mul-le-mul-right (10 ^ length ds) (first-some d ds e))
 
@@ -99,7 +99,7 @@ country-agrees ds e =
     ])
     (λ q. ap value (take-all n ds (omega (arith, q))))
 
-test-opens : (ds : List ℕ) → isCountryCode ds ≡ (isCode ds && eqb (countryDigits ds) (length ds))
+pub test-opens : (ds : List ℕ) → isCountryCode ds ≡ (isCode ds && eqb (countryDigits ds) (length ds))
 unfolding isCountryCode
 test-opens ds = refl
 

@@ -9,3 +9,8 @@ pub mod ValidLines
 pub mod NoticeLaws
 pub mod Scanning
 pub mod Checking
+pub mod LayoutLaws
+pub mod CountryCodes
+pub mod LineBack
+pub mod NoticeBack
+pub mod Sizes

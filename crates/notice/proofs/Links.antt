@@ -42,6 +42,10 @@ or-left b e = ap (λ (a : Bool). a || b) e
 pub or-right : {a : Bool} (b : Bool) → a ≡ false → (a || b) ≡ b
 or-right b e = ap (λ (a : Bool). a || b) e
 
+pub or-yes : (a : Bool) {b : Bool} → b ≡ true → (a || b) ≡ true
+or-yes true e = refl
+or-yes false e = e
+
 -- one of two tests holds where their disjunction does
 pub one-of : (a b : Bool) → (a || b) ≡ true → (a ≡ true) ⊎ (b ≡ true)
 one-of true b e = inl refl

@@ -2,3 +2,4 @@
 pub mod Field
 pub mod LineRule
 pub mod NoticeRule
+pub mod Layout

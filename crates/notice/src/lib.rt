@@ -7,6 +7,9 @@ ghost use Rattle.rate.specs.Price.{priceOf};
 ghost use Rattle.notice.specs.Field.{readRanged};
 ghost use Rattle.notice.specs.LineRule.{isCountry, codeField, readCode, offered, readIncrements, readRate, readTerms, readListed, readLine, lineAt};
 ghost use Rattle.notice.specs.NoticeRule.{countryField, readCountry, readNamed, readDated, readHeader, readLines, scanned, checkNotice};
+
+mod write;
+
 use dial_code::Country;
 use dial_code::Keyed;
 use rate::Day;
@@ -14,18 +17,23 @@ use rate::Offer;
 use rate::Priced;
 use rate::Rate;
 use varint::Number;
-
-const MOST_DIGITS: u64 = 15;
-
-const MOST_DECIMALS: u64 = 12;
-
-const MOST_MANTISSA: u64 = 10_000_000_000;
+pub use write::header_size;
+pub use write::line_size;
+pub use write::write_header;
+pub use write::write_line;
 
 const MOST_SECONDS: u64 = 255;
 
-const MOST_LINES: u64 = 65_535;
+pub const MOST_LINES: u64 = 65_535;
 
-const REPLACEMENT: u64 = 4;
+// The kinds of a notice.
+pub const FULL: u64 = 1;
+
+pub const PARTIAL: u64 = 2;
+
+pub const UPDATE: u64 = 3;
+
+pub const REPLACEMENT: u64 = 4;
 
 // A line: its code's key, what it offers from its effective day on (closed for a delete), and its last field as sent: the
 // listed day plus one, or 0 for none.
@@ -141,7 +149,7 @@ fn code_field(named: u64, before: u64, count: u64, value: u64, next: usize) -> N
 fn read_code(named: u64, before: u64, s: &[u8], at: usize) -> Number
     ensures { λ r. ⌜ r ≡ readCode named before (now (s .entry)) at ⌝ }
 {
-    match read_ranged(s, at, 1, MOST_DIGITS) {
+    match read_ranged(s, at, 1, dial_code::MOST_DIGITS) {
         Number::Refused(e) => Number::Refused(e),
         Number::Value(count, next) => match varint::read_number(s, next) {
             Number::Refused(e) => Number::Refused(e),
@@ -186,13 +194,13 @@ fn read_increments(mantissa: u64, decimals: u64, s: &[u8], at: usize) -> Terms
 fn read_rate(s: &[u8], at: usize) -> Terms
     ensures { λ r. ⌜ r ≡ readRate (now (s .entry)) at ⌝ }
 {
-    match read_ranged(s, at, 0, MOST_DECIMALS) {
+    match read_ranged(s, at, 0, rate::MOST_DECIMALS) {
         Number::Refused(e) => Terms::Refused(e),
         Number::Value(decimals, after_decimals) => match read_ranged(
             s,
             after_decimals,
             0,
-            MOST_MANTISSA,
+            rate::MOST_MANTISSA,
         ) {
             Number::Refused(e) => Terms::Refused(e),
             Number::Value(mantissa, end) => read_increments(mantissa, decimals, s, end),
@@ -304,7 +312,7 @@ fn country_field(count: u64, value: u64, end: usize) -> Number
 fn read_country(s: &[u8], at: usize) -> Number
     ensures { λ r. ⌜ r ≡ readCountry (now (s .entry)) at ⌝ }
 {
-    match read_ranged(s, at, 1, MOST_DIGITS) {
+    match read_ranged(s, at, 1, dial_code::MOST_DIGITS) {
         Number::Refused(e) => Number::Refused(e),
         Number::Value(count, after_count) => match varint::read_number(s, after_count) {
             Number::Refused(e) => Number::Refused(e),

@@ -16,12 +16,6 @@ use notice::Checked;
 use notice::LineRead;
 use notice::Summary;
 
-const HEADER_WORDS: usize = 4;
-
-const ENTRY_WORDS: usize = 3;
-// Every key is below this.
-const KEYS_END: u64 = 4_177_248_169_415_651;
-
 // What a merge comes to: how many entries, and the latest effective day.
 pub struct Merged {
     pub count: usize,
@@ -44,7 +38,7 @@ fn merge(
     ensures { λ _. ⌜ now (new .exit) ≡ stored write (now (new .entry)) 4 (wordsOf (mergedBy (now (old .entry)) plan (now (marks .entry)) (sentLines (now (notice .entry)) m))) ⌝ }
 {
     let mut place = Place {
-        at: HEADER_WORDS,
+        at: book::HEADER_WORDS,
         left: old[0] as usize,
         count: 0,
     };
@@ -68,7 +62,7 @@ fn merge(
             }
         }
     }
-    let to = crate::pass_unlisted(old, place, KEYS_END, plan, marks, new, write);
+    let to = crate::pass_unlisted(old, place, dial_code::KEYS_END, plan, marks, new, write);
     Merged {
         count: to.count,
         latest,
@@ -82,7 +76,7 @@ fn fill(old: &[u64], notice: &[u8], m: Summary, plan: Plan, marks: &[u8; 1000], 
     ensures { λ _. ⌜ now (new .exit) ≡ bookOf (length (now (new .entry))) (periodOf (now (old .entry))) (m .received) (latestBy plan (inBook (now (old .entry))) (latestOf (now (old .entry))) (sentLines (now (notice .entry)) m)) (mergedBy (now (old .entry)) plan (now (marks .entry)) (sentLines (now (notice .entry)) m)) ⌝ }
 {
     let done = merge(old, notice, m, plan, marks, new, true);
-    book::clear(new, HEADER_WORDS + done.count * ENTRY_WORDS);
+    book::clear(new, book::HEADER_WORDS + done.count * book::ENTRY_WORDS);
     new[0] = done.count as u64;
     new[1] = old[1];
     new[2] = m.received;
@@ -134,7 +128,7 @@ pub fn apply(old: &[u64], notice: &[u8], new: &mut [u64]) -> Applied
     if e != 0 {
         return refused(e);
     }
-    if new.len() < HEADER_WORDS {
+    if new.len() < book::HEADER_WORDS {
         return refused(refusal::BOOK_TOO_SHORT);
     }
     match notice::check_notice(notice) {

@@ -26,16 +26,6 @@ use notice::LineRead;
 use notice::Summary;
 use rate::Offer;
 
-const HEADER_WORDS: usize = 4;
-
-const ENTRY_WORDS: usize = 3;
-
-const FULL: u64 = 1;
-
-const PARTIAL: u64 = 2;
-
-const REPLACEMENT: u64 = 4;
-
 // What a notice asks of every line and of the codes that it does not list: `noticed` where every line waits for the floor, and
 // the day on which unlisted codes close.
 pub struct Plan {
@@ -81,7 +71,7 @@ fn plan_of(m: Summary, period: u64, latest: u64) -> Plan
 {
     let floor = m.received + period;
     let wanted = larger(m.received, m.earliest);
-    if m.kind == REPLACEMENT {
+    if m.kind == notice::REPLACEMENT {
         return Plan {
             kind: m.kind,
             country: m.country,
@@ -173,16 +163,16 @@ fn is_marked(marks: &[u8; 1000], country: u64) -> bool
 fn closes(plan: Plan, marks: &[u8; 1000], key: u64) -> bool
     ensures { λ r. ⌜ r ≡ closesBy plan (now (marks .entry)) key ⌝ }
 {
-    if plan.kind == FULL {
+    if plan.kind == notice::FULL {
         return true;
     }
     match dial_code::country_of_key(key) {
         Country::None => false,
         Country::Code(country) => {
-            if plan.kind == PARTIAL {
+            if plan.kind == notice::PARTIAL {
                 return is_marked(marks, country);
             }
-            if plan.kind == REPLACEMENT {
+            if plan.kind == notice::REPLACEMENT {
                 return country == plan.country;
             }
             false
@@ -230,7 +220,7 @@ fn marks_for(notice: &[u8], m: Summary) -> [u8; 1000]
     ensures { λ r. ⌜ r ≡ marksFor (m .kind) (sentLines (now (notice .entry)) m) ⌝ }
 {
     let mut marks = [0u8; 1000];
-    if m.kind == PARTIAL {
+    if m.kind == notice::PARTIAL {
         mark_lines(notice, m, &mut marks);
     }
     marks
@@ -252,7 +242,7 @@ fn write_entry(new: &mut [u64], count: usize, e: Entry)
     requires { ⌜ 4 + (count + 1) * 3 ≤ length (now new) ⌝ }
     ensures { λ _. ⌜ now (new .exit) ≡ stored true (now (new .entry)) (4 + count * 3) (wordsOf (e ∷ [])) ⌝ }
 {
-    let at = HEADER_WORDS + count * ENTRY_WORDS;
+    let at = book::HEADER_WORDS + count * book::ENTRY_WORDS;
     new[at] = e.key;
     new[at + 1] = e.day;
     new[at + 2] = e.offer;
@@ -348,7 +338,7 @@ fn pass_unlisted(
         if below <= e.key {
             return Place { at, left, count };
         }
-        at += ENTRY_WORDS;
+        at += book::ENTRY_WORDS;
         left -= 1;
         let closed = closes(plan, marks, e.key);
         count = put_unlisted(old, at, left, e, closed, day, new, count, write);
@@ -377,7 +367,7 @@ fn keep_listed(old: &[u64], from: Place, change: Entry, new: &mut [u64], write: 
                 status,
             };
         }
-        at += ENTRY_WORDS;
+        at += book::ENTRY_WORDS;
         left -= 1;
         if e.day < change.day {
             put(new, count, e, write);

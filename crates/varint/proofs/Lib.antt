@@ -5,3 +5,4 @@ pub mod Values
 pub mod Refusals
 pub mod Outcome
 pub mod Laws
+pub mod Several

@@ -3,16 +3,24 @@ use mathlib.Core.Path.{_≡_, refl, ap, sym, _∙_}
 use mathlib.Core.Logic.{_≢_}
 use mathlib.Core.Bool.{Bool, true, false, cond}
 use mathlib.Core.List.{List}
-use Prim.Native.Nat.{ℕ, _+_, _^_, _≤_, _<_}
+use Prim.Native.Nat.{ℕ, _+_, _-_, _^_, _≤_, _<_}
+use native.Mathlib.Decide.{decLe}
 use native.Mathlib.Omega.{arith}
 use borrow.Author.Tests.{ltb-true, ltb-false, lt-ltb, le-ltb, le-leb, lt-leb}
 use lib.ListN.{length}
 use lib.Seq.{sets, sets-eq}
-use lib.Dec.{ltb}
+use lib.Dec.{leb, ltb}
 use Rattle.varint.specs.declared.Written.{Written}
 use Rattle.varint.specs.declared.Written.the-variants.{UpTo, NoRoom, TooLarge}
 use Rattle.varint.specs.Writing.{encode, sizeOf, answer, left}
 use Rattle.varint.proofs.Groups.{some-byte}
+
+-- Room from a position on, by the difference.
+pub room-left : (room at size : ℕ) → at ≤ room → leb size (room - at) ≡ leb (at + size) room
+room-left room at size h = elim (decLe size (room - at)) [
+  | yes l ↦ le-leb size (room - at) l ∙ sym (le-leb (at + size) room (omega arith))
+  | no l ↦ lt-leb size (room - at) (omega arith) ∙ sym (lt-leb (at + size) room (omega arith))
+]
 
 -- a size of 0 tells that the number is too large, and any other that it is not
 pub no-size : (n r : ℕ) → r ≡ sizeOf n → r ≡ 0 → 2 ^ 63 ≤ n

@@ -1,10 +1,13 @@
 // Numbers in groups of seven bits (document 01, "Notice layout"): read at a position, sized, and written.
 // In the trade: unsigned LEB128 of at most nine groups, in its shortest form only.
 ghost use mathlib.Core.Path.{_≡_};
-ghost use Prim.Native.Nat.{_+_, _<_};
+ghost use Prim.Native.Nat.{_+_, _^_, _<_, _≤_};
+ghost use lib.Dec.{leb};
 ghost use lib.ListN.{length};
+ghost use lib.Seq.{sets};
 ghost use Rattle.varint.specs.Reading.{readNumber};
-ghost use Rattle.varint.specs.Writing.{sizeOf, answer, left};
+ghost use Rattle.varint.specs.Writing.{encode, sizeOf, answer, left};
+ghost use Rattle.varint.specs.Several.{sizeOfAll, answerAll, leavesAll};
 
 // At most so many groups.
 const MOST_GROUPS: u64 = 9;
@@ -75,6 +78,33 @@ pub fn number_size(n: u64) -> usize
     size
 }
 
+// Whether so many bytes from a position on stay within so much room.
+fn fits(room: usize, at: usize, size: usize) -> bool
+    ensures { λ r. ⌜ r ≡ leb (at + size) room ⌝ }
+{
+    if room < at {
+        return false;
+    }
+    size <= room - at
+}
+
+// Writes a number where there is room for it, and gives the position after it.
+fn put_number(out: &mut [u8], at: usize, n: u64) -> usize
+    requires { ⌜ (n < 2 ^ 63) × (at + length (encode n) ≤ length (now out)) ⌝ }
+    ensures { λ r. ⌜ r ≡ at + length (encode n) ⌝ }
+    ensures { λ r. ⌜ now (out .exit) ≡ sets (now (out .entry)) at (encode n) ⌝ }
+{
+    let mut m = n;
+    let mut i = at;
+    while 128 <= m {
+        out[i] = (m % 128 + 128) as u8;
+        m /= 128;
+        i += 1;
+    }
+    out[i] = m as u8;
+    i + 1
+}
+
 // Writes a number at a position of a lent slice. Where there is no room, or the number is too large, no byte changes.
 pub fn write_number(out: &mut [u8], at: usize, n: u64) -> Written
     ensures { λ r. ⌜ r ≡ answer (length (now (out .entry))) at n ⌝ }
@@ -84,19 +114,49 @@ pub fn write_number(out: &mut [u8], at: usize, n: u64) -> Written
     if size == 0 {
         return Written::TooLarge;
     }
-    if out.len() < at {
+    if !fits(out.len(), at, size) {
         return Written::NoRoom;
     }
-    if out.len() - at < size {
-        return Written::NoRoom;
-    }
-    let mut m = n;
-    let mut i = at;
-    while 128 <= m {
-        out[i] = (m % 128 + 128) as u8;
-        m /= 128;
+    Written::UpTo(put_number(out, at, n))
+}
+
+// How many bytes several numbers take, one after the other; 0 where one is too large to have an encoding.
+pub fn numbers_size(numbers: &[u64]) -> usize
+    ensures { λ r. ⌜ r ≡ sizeOfAll (now (numbers .entry)) ⌝ }
+{
+    let mut size: usize = 0;
+    let mut i: usize = 0;
+    while i < numbers.len() {
+        let one = number_size(numbers[i]);
+        if one == 0 {
+            return 0;
+        }
+        size += one;
         i += 1;
     }
-    out[i] = m as u8;
-    Written::UpTo(i + 1)
+    size
+}
+
+// Writes several numbers one after the other at a position of a lent slice. Where there is no room for all of them, or one is
+// too large, no byte changes.
+pub fn write_numbers(out: &mut [u8], at: usize, numbers: &[u64]) -> Written
+    ensures { λ r. ⌜ r ≡ answerAll (length (now (out .entry))) at (now (numbers .entry)) ⌝ }
+    ensures { λ r. ⌜ now (out .exit) ≡ leavesAll (now (out .entry)) at (now (numbers .entry)) ⌝ }
+{
+    let total = numbers_size(numbers);
+    if total == 0 {
+        if 0 < numbers.len() {
+            return Written::TooLarge;
+        }
+    }
+    if !fits(out.len(), at, total) {
+        return Written::NoRoom;
+    }
+    let mut end = at;
+    let mut done: usize = 0;
+    while done < numbers.len() {
+        end = put_number(out, end, numbers[done]);
+        done += 1;
+    }
+    Written::UpTo(end)
 }

@@ -1,0 +1,187 @@
+-- Several numbers one after the other: what numbers_size and write_numbers come to, and that they read back.
+-- Assumes nothing.
+use mathlib.Core.Path.{_≡_, refl, ap, sym, _∙_}
+use mathlib.Core.Logic.{_≢_}
+use mathlib.Core.Bool.{Bool, true, false, cond, and-eq-true-iff}
+use mathlib.Core.List.{List, [], _∷_, _++_, append-assoc}
+use Prim.Native.Nat.{ℕ, suc, _+_, _^_, _≤_, _<_}
+use native.Mathlib.Omega.{arith}
+use native.Mathlib.Numerals.{add-one}
+use borrow.Author.Tests.{ltb-true, lt-ltb, le-ltb, le-leb, lt-leb}
+use lib.ListN.{length, getD, set, take, drop, length-append, drop-of-length-le}
+use lib.Seq.{sets, sets-eq, length-sets, drop-cons, drop-drop, drop-append-seam}
+use Rattle.varint.specs.declared.Number.the-variants.{Value}
+use Rattle.varint.specs.declared.Written.{Written}
+use Rattle.varint.specs.declared.Written.the-variants.{UpTo, NoRoom, TooLarge}
+use Rattle.varint.specs.Reading.{from, readNumber}
+use Rattle.varint.specs.Writing.{encode, encodable, sizeOf}
+use Rattle.varint.specs.Several.{encodeAll, encodableAll, sizeOfAll, answerAll, leftAll, leavesAll}
+use Rattle.varint.proofs.Groups.{back}
+use Rattle.varint.proofs.Outcome.{no-size}
+use Rattle.varint.proofs.Laws.{size}
+
+-- No numbers have an encoding, and several have one where the first has one and the others have.
+pub all-nil : encodableAll [] ≡ true
+unfolding encodableAll
+all-nil = refl
+
+pub all-first : (n : ℕ) (ns : List ℕ) → encodableAll (n ∷ ns) ≡ true → (n < 2 ^ 63) × (encodableAll ns ≡ true)
+unfolding encodableAll
+all-first n ns e = let p = and-eq-true-iff (encodable n) (encodableAll ns) .0 e in (ltb-true _ _ (p .0), p .1)
+
+pub all-cons : (n : ℕ) (ns : List ℕ) → n < 2 ^ 63 → encodableAll (n ∷ ns) ≡ encodableAll ns
+unfolding encodableAll
+all-cons n ns h = rw (lt-ltb _ _ h)
+
+not-first : (n : ℕ) (ns : List ℕ) → 2 ^ 63 ≤ n → encodableAll (n ∷ ns) ≡ false
+unfolding encodableAll
+not-first n ns h = rw (le-ltb _ _ h)
+
+-- No numbers have no bytes; the first number's bytes, and those of the others.
+pub bytes-nil : encodeAll [] ≡ []
+unfolding encodeAll
+bytes-nil = refl
+
+pub bytes-cons : (n : ℕ) (ns : List ℕ) → encodeAll (n ∷ ns) ≡ encode n ++ encodeAll ns
+unfolding encodeAll
+bytes-cons n ns = refl
+
+-- The bytes of two lists of numbers are those of the first and then those of the second.
+pub bytes-append : (ms ns : List ℕ) → encodeAll (ms ++ ns) ≡ encodeAll ms ++ encodeAll ns
+unfolding encodeAll
+bytes-append [] ns = refl
+bytes-append (m ∷ ms) ns = ap (λ (t : List ℕ). encode m ++ t) (bytes-append ms ns) ∙ sym (append-assoc (encode m) _ _)
+
+pub length-bytes-append : (ms ns : List ℕ) → length (encodeAll (ms ++ ns)) ≡ length (encodeAll ms) + length (encodeAll ns)
+length-bytes-append ms ns = ap length (bytes-append ms ns) ∙ length-append (encodeAll ms) (encodeAll ns)
+
+pub length-bytes-cons : (n : ℕ) (ns : List ℕ) → length (encodeAll (n ∷ ns)) ≡ length (encode n) + length (encodeAll ns)
+length-bytes-cons n ns = ap length (bytes-cons n ns) ∙ length-append (encode n) (encodeAll ns)
+
+-- Numbers have bytes.
+pub some-bytes : (ns : List ℕ) → 0 < length ns → 0 < length (encodeAll ns)
+some-bytes [] h = absurd (omega arith)
+some-bytes (n ∷ ns) h = omega (arith, length-bytes-cons n ns, size n)
+
+-- One turn of a pass over the numbers: the i-th and those after it.
+module _ (ns : List ℕ) (i : ℕ) (h : i < length ns) where
+  from-here : drop i ns ≡ getD ns i 0 ∷ drop (i + 1) ns
+  from-here = rw add-one (drop-cons ns i 0 h)
+
+  pub turn-all : getD ns i 0 < 2 ^ 63 → encodableAll (drop i ns) ≡ encodableAll (drop (i + 1) ns)
+  turn-all l = ap encodableAll from-here ∙ all-cons _ _ l
+
+  pub turn-bytes : encodeAll (drop i ns) ≡ encode (getD ns i 0) ++ encodeAll (drop (i + 1) ns)
+  turn-bytes = ap encodeAll from-here ∙ bytes-cons _ _
+
+  pub turn-length : length (encodeAll (drop i ns)) ≡ length (encode (getD ns i 0)) + length (encodeAll (drop (i + 1) ns))
+  turn-length = ap length turn-bytes ∙ length-append (encode (getD ns i 0)) _
+
+  pub turn-first : encodableAll (drop i ns) ≡ true → (getD ns i 0 < 2 ^ 63) × (encodableAll (drop (i + 1) ns) ≡ true)
+  turn-first e = all-first _ _ (ap encodableAll (sym from-here) ∙ e)
+
+  -- A number of no size ends the pass.
+  pub stops : (r : ℕ) → r ≡ sizeOf (getD ns i 0) → r ≡ 0 → encodableAll ns ≡ encodableAll (drop i ns) → 0 ≡ sizeOfAll ns
+  unfolding sizeOfAll
+  stops r e z f =
+      let p : encodableAll ns ≡ false = f ∙ ap encodableAll from-here ∙ not-first _ (drop (i + 1) ns) (no-size _ r e z) in
+      sym (rw p)
+
+-- The pass has come to the end.
+pub rests : (ns : List ℕ) (i : ℕ) → length ns ≤ i → (encodableAll (drop i ns) ≡ true) × (encodeAll (drop i ns) ≡ [])
+unfolding encodableAll encodeAll
+rests ns i h = rw (drop-of-length-le ns h) (refl, refl)
+
+pub all-sized : (ns : List ℕ) → encodableAll ns ≡ true → sizeOfAll ns ≡ length (encodeAll ns)
+unfolding sizeOfAll
+all-sized ns e = rw e
+
+-- A size of 0 tells that one of some numbers is too large, and any other that none is.
+pub none-sized : (ns : List ℕ) (r : ℕ) → r ≡ sizeOfAll ns → r ≡ 0 → 0 < length ns → encodableAll ns ≡ false
+unfolding sizeOfAll
+none-sized ns r e z h = go (encodableAll ns) refl (sym e ∙ z)
+  where
+    go : (t : Bool) → encodableAll ns ≡ t → cond t (length (encodeAll ns)) 0 ≡ 0 → encodableAll ns ≡ false
+    go true q f = absurd (omega (arith, some-bytes ns h))
+    go false q f = q
+
+pub some-sized : (ns : List ℕ) (r : ℕ) → r ≡ sizeOfAll ns → r ≢ 0 → (encodableAll ns ≡ true) × (r ≡ length (encodeAll ns))
+unfolding sizeOfAll
+some-sized ns r e h = go (encodableAll ns) refl e
+  where
+    go : (t : Bool) → encodableAll ns ≡ t → r ≡ cond t (length (encodeAll ns)) 0
+        → (encodableAll ns ≡ true) × (r ≡ length (encodeAll ns))
+    go true q z = (q, z)
+    go false q z = absurd (h z)
+
+-- no numbers have an encoding, of no bytes
+pub empty-sized : (ns : List ℕ) (r : ℕ) → r ≡ sizeOfAll ns → length ns ≡ 0
+    → (encodableAll ns ≡ true) × (r ≡ length (encodeAll ns))
+unfolding encodableAll encodeAll sizeOfAll
+empty-sized [] r e h = (refl, e)
+empty-sized (n ∷ ns) r e h = absurd (omega arith)
+
+-- Stores one after the other.
+pub sets-append : (l : List ℕ) (i : ℕ) (xs ys : List ℕ) → sets (sets l i xs) (i + length xs) ys ≡ sets l i (xs ++ ys)
+sets-append l i [] ys = ap (λ (j : ℕ). sets l j ys) (omega arith)
+sets-append l i (x ∷ xs) ys =
+    ap (λ (j : ℕ). sets (sets (set l i x) (suc i) xs) j ys) (omega arith) ∙ sets-append (set l i x) (suc i) xs ys
+
+-- One number stored: the length stays, and what is left to store gives what it gave before.
+pub stores : (ns : List ℕ) (i : ℕ) → i < length ns → (l : List ℕ) (end : ℕ) {m r : List ℕ} {next : ℕ}
+    → m ≡ sets l end (encode (getD ns i 0))
+    → next ≡ end + length (encode (getD ns i 0))
+    → sets l end (encodeAll (drop i ns)) ≡ r
+    → (length m ≡ length l) × (sets m next (encodeAll (drop (i + 1) ns)) ≡ r)
+stores ns i h l end e f g = (
+  ap length e ∙ length-sets l end (encode (getD ns i 0)),
+  rw (e, f, sets-append l end (encode (getD ns i 0)) (encodeAll (drop (i + 1) ns)), ← turn-bytes ns i h) g,
+)
+
+module _ (s : List ℕ) (at : ℕ) (ns : List ℕ) where
+  -- an answer and the bytes left, as the contract has them
+  abbrev pub ComesAll : Written → List ℕ → Type 0
+  ComesAll r l = (r ≡ answerAll (length s) at ns) × (l ≡ leavesAll s at ns)
+
+  comes-all : {r : Written} {l : List ℕ} → r ≡ answerAll (length s) at ns → l ≡ leftAll r s at ns → ComesAll r l
+  comes-all e f = (e, f ∙ ap (λ (w : Written). leftAll w s at ns) e)
+
+  pub all-too-large : encodableAll ns ≡ false → ComesAll TooLarge s
+  unfolding answerAll leftAll
+  all-too-large h = comes-all (sym (rw h)) refl
+
+  pub all-no-room : encodableAll ns ≡ true → length s < at + length (encodeAll ns) → ComesAll NoRoom s
+  unfolding answerAll leftAll
+  all-no-room h l = comes-all (sym (rw (h, lt-leb _ _ l))) refl
+
+  pub all-written : {end : ℕ} {l : List ℕ} → encodableAll ns ≡ true → at + length (encodeAll ns) ≤ length s
+      → end ≡ at + length (encodeAll ns) → l ≡ sets s at (encodeAll ns) → ComesAll (UpTo end) l
+  unfolding answerAll leftAll
+  all-written h u e f =
+      comes-all (ap UpTo e ∙ sym (rw (h, le-leb _ _ u))) (f ∙ sets-eq (encodeAll ns) s at u ∙ rw e)
+
+  -- Where each has an encoding and there is room for all, they are written.
+  pub writes : encodableAll ns ≡ true → at + length (encodeAll ns) ≤ length s
+      → (answerAll (length s) at ns ≡ UpTo (at + length (encodeAll ns)))
+      × (leavesAll s at ns ≡ take at s ++ encodeAll ns ++ drop (at + length (encodeAll ns)) s)
+  unfolding answerAll leftAll
+  writes h u =
+      let e : answerAll (length s) at ns ≡ UpTo (at + length (encodeAll ns)) = rw (h, le-leb _ _ u) in
+      (e, ap (λ (w : Written). leftAll w s at ns) e)
+
+-- Reading back, wherever the bytes stand: a number at the front of what is left reads as the number, and what is left after
+-- it is what stood behind its bytes.
+pub reads-on : (s : List ℕ) (at n : ℕ) (post : List ℕ) → n < 2 ^ 63 → drop at s ≡ encode n ++ post
+    → (readNumber s at ≡ Value n (at + length (encode n))) × (drop (at + length (encode n)) s ≡ post)
+unfolding readNumber encode
+reads-on s at n post h e = (
+  rw e (ap (from at) (back 8 n post h)),
+  sym (drop-drop (length (encode n)) at s) ∙ ap (drop (length (encode n))) e ∙ drop-append-seam (encode n) post,
+)
+
+-- The same of the first of several numbers: what is left after it is the bytes of the others.
+pub reads-first : (s : List ℕ) (at n : ℕ) (ns post : List ℕ) → n < 2 ^ 63 → drop at s ≡ encodeAll (n ∷ ns) ++ post
+    → (readNumber s at ≡ Value n (at + length (encode n))) × (drop (at + length (encode n)) s ≡ encodeAll ns ++ post)
+reads-first s at n ns post h e =
+    reads-on s at n (encodeAll ns ++ post) h
+    (e ∙ ap (λ (t : List ℕ). t ++ post) (bytes-cons n ns) ∙ append-assoc (encode n) (encodeAll ns) post)
