@@ -34,7 +34,10 @@ module _ (word : ℕ → ℕ → ℕ) (k : ℕ) where
   unfolding changesFrom
   changes-step P before d n f g = go (eqb (word k d) before) refl
     where
-      go : (t : Bool) → eqb (word k d) before ≡ t → P (cond t (changesFrom word k (word k d) (d + 1) n) (entry k d (word k d) ∷ changesFrom word k (word k d) (d + 1) n))
+      go :
+          (t : Bool)
+          → eqb (word k d) before ≡ t
+          → P (cond t (changesFrom word k (word k d) (d + 1) n) (entry k d (word k d) ∷ changesFrom word k (word k d) (d + 1) n))
       go true e = f (eqb-true _ _ e)
       go false e = g (eqb-false _ _ e)
 
@@ -53,7 +56,11 @@ module _ (word : ℕ → ℕ → ℕ) (k : ℕ) where
       changes-step (λ (es : List Entry). statusFrom w es k y ≡ w) before d n (λ e. rest) (λ q. later-day w (entry k d (word k d)) (changesFrom word k (word k d) (d + 1) n) k y h ∙ rest)
 
   -- a day's status from the day's word on
-  from-word : (before d n y : ℕ) {r : ℕ} → d ≤ y → statusFrom (word k d) (changesFrom word k (word k d) (d + 1) n) k y ≡ r → statusFrom before (changesFrom word k before d (suc n)) k y ≡ r
+  from-word :
+      (before d n y : ℕ) {r : ℕ}
+      → d ≤ y
+      → statusFrom (word k d) (changesFrom word k (word k d) (d + 1) n) k y ≡ r
+      → statusFrom before (changesFrom word k before d (suc n)) k y ≡ r
   from-word before d n y {r} h e =
       changes-step (λ (es : List Entry). statusFrom before es k y ≡ r) before d n
       (λ q. ap (λ (w : ℕ). statusFrom w (changesFrom word k (word k d) (d + 1) n) k y) (sym q) ∙ e)
@@ -159,7 +166,11 @@ module _ (word : ℕ → ℕ → ℕ) (a : Admissible word) (k : ℕ) (rest : Li
   no-change d e (inside p q s) = inside p (omega arith) (s ∙ sym e)
   no-change d e (ahead p q) = ahead p (e ∙ q)
 
-  change-after : {j m o before : ℕ} (d : ℕ) → (word k d ≡ before → ⊥) → Ready j m o k before d → After j m o (entry k d (word k d))
+  change-after :
+      {j m o before : ℕ} (d : ℕ)
+      → (word k d ≡ before → ⊥)
+      → Ready j m o k before d
+      → After j m o (entry k d (word k d))
   change-after d n (inside p q s) = same (sym p) q (λ e. n (e ∙ s))
   change-after d n (ahead p q) = next p (λ e. n (e ∙ sym q))
 
@@ -184,14 +195,22 @@ module _ (word : ℕ → ℕ → ℕ) (a : Admissible word) (k : ℕ) (rest : Li
       (λ e. changes-sound j m o (word k d) (d + 1) n (no-change d e b) l (a .closed k d) (omega arith))
       (λ e. put (changes-sound k (suc d) (word k d) (word k d) (d + 1) n (inside refl (omega arith) refl) (omega arith) (a .closed k d) (omega arith)) e)
     where
-      put : SoundFrom k (suc d) (word k d) (changesFrom word k (word k d) (d + 1) n ++ rest) → (word k d ≡ before → ⊥) → SoundFrom j m o (entry k d (word k d) ∷ (changesFrom word k (word k d) (d + 1) n ++ rest))
+      put :
+          SoundFrom k (suc d) (word k d) (changesFrom word k (word k d) (d + 1) n ++ rest)
+          → (word k d ≡ before → ⊥)
+          → SoundFrom j m o (entry k d (word k d) ∷ (changesFrom word k (word k d) (d + 1) n ++ rest))
       put s e =
           sound-cons j m o (entry k d (word k d)) (changesFrom word k (word k d) (d + 1) n ++ rest) (change-after d e b)
           (record { code = is-code before d c e; day-most = omega arith; offer-word = a .offers k d })
           s
 
 module _ (word : ℕ → ℕ → ℕ) (a : Admissible word) where
-  code-sound : (k j m o : ℕ) (rest : List Entry) → Ready j m o k 0 0 → j ≤ k → ((j m o : ℕ) → j ≤ k → SoundFrom j m o rest) → SoundFrom j m o (codeChanges word k ++ rest)
+  code-sound :
+      (k j m o : ℕ) (rest : List Entry)
+      → Ready j m o k 0 0
+      → j ≤ k
+      → ((j m o : ℕ) → j ≤ k → SoundFrom j m o rest)
+      → SoundFrom j m o (codeChanges word k ++ rest)
   unfolding codeChanges
   code-sound k j m o rest b l r = changes-sound word a k rest r j m o 0 0 65001 b l (λ e. refl) (omega arith)
 

@@ -85,7 +85,11 @@ module _ (period : ℕ) (p : period ≤ 365) (before : Known) (n : Notice) (g : 
   listed-good x [] h = closes-good x (closes n x)
   listed-good x (l ∷ ls) h = go (eqb (l .key) x) refl (listed-good x ls (h .1))
     where
-      go : (t : Bool) → eqb (l .key) x ≡ t → GoodChange x (listedChange period before n x (lineFor x ls)) → GoodChange x (listedChange period before n x (cond t (listed l) (lineFor x ls)))
+      go :
+          (t : Bool)
+          → eqb (l .key) x ≡ t
+          → GoodChange x (listedChange period before n x (lineFor x ls))
+          → GoodChange x (listedChange period before n x (cond t (listed l) (lineFor x ls)))
       go true e r = line-good x l (h .0) (eqb-true _ _ e)
       go false e r = r
 
@@ -107,7 +111,13 @@ changed-in-range x (from day offer) g d o h = go (leb day d)
     go true = g .1
     go false = h
 
-changed-closed : (x : ℕ) (c : Change) → GoodChange x c → isCodeKey x ≡ false → (d : ℕ) (o : Offer) → o ≡ Closed → changed c d o ≡ Closed
+changed-closed :
+    (x : ℕ) (c : Change)
+    → GoodChange x c
+    → isCodeKey x ≡ false
+    → (d : ℕ) (o : Offer)
+    → o ≡ Closed
+    → changed c d o ≡ Closed
 changed-closed x nothing g e d o h = h
 changed-closed x (from day offer) g e d o h = go (leb day d)
   where
@@ -115,13 +125,25 @@ changed-closed x (from day offer) g e d o h = go (leb day d)
     go true = g .2 e
     go false = h
 
-changed-last : (x : ℕ) (c : Change) → GoodChange x c → (d : ℕ) (o q : Offer) → 65000 ≤ d → o ≡ q → changed c d o ≡ changed c 65000 q
+changed-last :
+    (x : ℕ) (c : Change)
+    → GoodChange x c
+    → (d : ℕ) (o q : Offer)
+    → 65000 ≤ d
+    → o ≡ q
+    → changed c d o ≡ changed c 65000 q
 changed-last x nothing g d o q h e = e
 changed-last x (from day offer) g d o q h e =
     rw (le-leb day d (omega (arith, g .0)), le-leb day 65000 (g .0))
 
 -- What a notice that reads leaves standing.
-pub keeps : (period : ℕ) → period ≤ 365 → (before : Known) (n : Notice) → Good n → Standing before → Standing (afterNotice period before n)
+pub keeps :
+    (period : ℕ)
+    → period ≤ 365
+    → (before : Known) (n : Notice)
+    → Good n
+    → Standing before
+    → Standing (afterNotice period before n)
 keeps period p before n g s =
     record {
       offers = λ x d. changed-in-range x (changeOf period before n x) (change-good period p before n g x) d (before .status x d) (s .offers x d);

@@ -76,7 +76,9 @@ pub record Accepted (ws bytes : List ℕ) (len : ℕ) : Type 0 where
   pub in-order : receivedOf ws ≤ read .received
   pub fits : length (newEntries ws read) ≤ held len
 
-judged-by : (ws : List ℕ) (n : Notice) (len : ℕ) → judgedBy ws n len ≡ cond (ltb (n .received) (receivedOf ws)) receivedEarlier (cond (leb (length (newEntries ws n)) (held len)) 0 bookFull)
+judged-by :
+    (ws : List ℕ) (n : Notice) (len : ℕ)
+    → judgedBy ws n len ≡ cond (ltb (n .received) (receivedOf ws)) receivedEarlier (cond (leb (length (newEntries ws n)) (held len)) 0 bookFull)
 unfolding judgedBy
 judged-by ws n len = refl
 
@@ -84,11 +86,26 @@ pub accepted-facts : (ws bytes : List ℕ) (len : ℕ) → sound ws ≡ true →
 unfolding applyRefusal
 accepted-facts ws bytes len h e = by-length (ltb len 4) refl (rw (usable ws h) at e)
   where
-    by-fit : (n : Notice) → 4 ≤ len → readNotice bytes ≡ notice n → receivedOf ws ≤ n .received → (t : Bool) → leb (length (newEntries ws n)) (held len) ≡ t → cond t 0 bookFull ≡ 0 → Accepted ws bytes len
+    by-fit :
+        (n : Notice)
+        → 4 ≤ len
+        → readNotice bytes ≡ notice n
+        → receivedOf ws ≤ n .received
+        → (t : Bool)
+        → leb (length (newEntries ws n)) (held len) ≡ t
+        → cond t 0 bookFull ≡ 0
+        → Accepted ws bytes len
     by-fit n l q r true p z = record { four = l; read = n; reads = q; in-order = r; fits = leb-true _ _ p }
     by-fit n l q r false p z = absurd (omega arith)
 
-    by-order : (n : Notice) → 4 ≤ len → readNotice bytes ≡ notice n → (t : Bool) → ltb (n .received) (receivedOf ws) ≡ t → cond t receivedEarlier (cond (leb (length (newEntries ws n)) (held len)) 0 bookFull) ≡ 0 → Accepted ws bytes len
+    by-order :
+        (n : Notice)
+        → 4 ≤ len
+        → readNotice bytes ≡ notice n
+        → (t : Bool)
+        → ltb (n .received) (receivedOf ws) ≡ t
+        → cond t receivedEarlier (cond (leb (length (newEntries ws n)) (held len)) 0 bookFull) ≡ 0
+        → Accepted ws bytes len
     by-order n l q true p z = absurd (omega arith)
     by-order n l q false p z = by-fit n l q (ltb-false _ _ p) (leb (length (newEntries ws n)) (held len)) refl z
 
@@ -101,7 +118,12 @@ accepted-facts ws bytes len h e = by-length (ltb len 4) refl (rw (usable ws h) a
     by-length false p z = by-reading (ltb-false len 4 p) (readNotice bytes) refl z
 
 -- What an accepted apply leaves is the new book.
-pub accepted-words : (ws bytes new : List ℕ) → applyRefusal ws bytes (length new) ≡ 0 → (n : Notice) → readNotice bytes ≡ notice n → applied ws bytes new ≡ newBook ws (length new) n
+pub accepted-words :
+    (ws bytes new : List ℕ)
+    → applyRefusal ws bytes (length new) ≡ 0
+    → (n : Notice)
+    → readNotice bytes ≡ notice n
+    → applied ws bytes new ≡ newBook ws (length new) n
 unfolding applied
 accepted-words ws bytes new e n q = rw (eq-eqb (applyRefusal ws bytes (length new)) 0 e, q)
 
@@ -116,7 +138,13 @@ unfolding lookup
 looked ws number day h i d = rw (usable ws h, i, d)
 
 -- The book after an accepted apply stands where the history with the notice appended stands.
-new-linked : (ws : List ℕ) (period : ℕ) (accepted : List Notice) (n : Notice) (len : ℕ) → Linked ws period accepted → Good n → 4 ≤ len → length (newEntries ws n) ≤ held len → Linked (newBook ws len n) period (n ∷ accepted)
+new-linked :
+    (ws : List ℕ) (period : ℕ) (accepted : List Notice) (n : Notice) (len : ℕ)
+    → Linked ws period accepted
+    → Good n
+    → 4 ≤ len
+    → length (newEntries ws n) ≤ held len
+    → Linked (newBook ws len n) period (n ∷ accepted)
 unfolding known bookOf
 new-linked ws period accepted n len l g four fits =
     let b = sound-book ws (l .sound) in
@@ -130,7 +158,10 @@ new-linked ws period accepted n len l g four fits =
     }
 
 -- The current book after an apply stands where the machine stands.
-step : (ws : List ℕ) (period : ℕ) (accepted : List Notice) (a : Apply) → Linked ws period accepted → Linked (current ws a) period (accepts period accepted a)
+step :
+    (ws : List ℕ) (period : ℕ) (accepted : List Notice) (a : Apply)
+    → Linked ws period accepted
+    → Linked (current ws a) period (accepts period accepted a)
 unfolding current accepts
 step ws period accepted a l = go (eqb refusal 0) refl
   where
@@ -146,18 +177,27 @@ step ws period accepted a l = go (eqb refusal 0) refl
         rw (accepted-words ws (a .bytes) (a .new) e (f .read) (f .reads), f .reads)
         (new-linked ws period accepted (f .read) (length (a .new)) l (good (a .bytes) (f .read) (f .reads)) (f .four) (f .fits))
 
-    go : (t : Bool) → eqb refusal 0 ≡ t → Linked (cond (eqb refusal 0) (applied ws (a .bytes) (a .new)) ws) period (cond (eqb (answers period accepted (a .bytes) (length (a .new))) 0) (withNotice accepted (readNotice (a .bytes))) accepted)
+    go :
+        (t : Bool)
+        → eqb refusal 0 ≡ t
+        → Linked (cond (eqb refusal 0) (applied ws (a .bytes) (a .new)) ws) period (cond (eqb (answers period accepted (a .bytes) (length (a .new))) 0) (withNotice accepted (readNotice (a .bytes))) accepted)
     go true e = rw (← same, e) (taken (eqb-true refusal 0 e))
     go false e = rw (← same, e) l
 
-same-answers : (ws : List ℕ) (period : ℕ) (accepted : List Notice) (all : List Apply) → Linked ws period accepted → bookAnswers ws all ≡ machineAnswers period accepted all
+same-answers :
+    (ws : List ℕ) (period : ℕ) (accepted : List Notice) (all : List Apply)
+    → Linked ws period accepted
+    → bookAnswers ws all ≡ machineAnswers period accepted all
 unfolding bookAnswers machineAnswers
 same-answers ws period accepted [] l = refl
 same-answers ws period accepted (a ∷ later) l =
     ap₂ _∷_ (same-answer ws period accepted l (a .bytes) (length (a .new)))
     (same-answers (current ws a) period (accepts period accepted a) later (step ws period accepted a l))
 
-pub left-linked : (ws : List ℕ) (period : ℕ) (accepted : List Notice) (all : List Apply) → Linked ws period accepted → Linked (bookLeft ws all) period (acceptedBy period accepted all)
+pub left-linked :
+    (ws : List ℕ) (period : ℕ) (accepted : List Notice) (all : List Apply)
+    → Linked ws period accepted
+    → Linked (bookLeft ws all) period (acceptedBy period accepted all)
 unfolding bookLeft acceptedBy
 left-linked ws period accepted [] l = l
 left-linked ws period accepted (a ∷ later) l =
@@ -175,7 +215,10 @@ same-lookup ws period accepted l number day i d =
     ∙ ap (λ (k : Known). Found (matched (λ (x : ℕ). k .status x (day .0)) (map digitOf number))) (l .known-is)
 
 -- A book that stands where a history stands goes on as the machine does.
-pub alike : (ws : List ℕ) (period : ℕ) (accepted : List Notice) (all : List Apply) → Linked ws period accepted → Alike ws period accepted all
+pub alike :
+    (ws : List ℕ) (period : ℕ) (accepted : List Notice) (all : List Apply)
+    → Linked ws period accepted
+    → Alike ws period accepted all
 alike ws period accepted all l =
     let f = left-linked ws period accepted all l in
     record {

@@ -50,7 +50,9 @@ found : Plan → Known → Listing → Found
 found p before (listed l) = some (changeBy p before l)
 found p before unlisted = none
 
-found-line : (p : Plan) (before : Known) (x : ℕ) (ls : List Line) → changeFor x (changesBy p before ls) ≡ found p before (lineFor x ls)
+found-line :
+    (p : Plan) (before : Known) (x : ℕ) (ls : List Line)
+    → changeFor x (changesBy p before ls) ≡ found p before (lineFor x ls)
 unfolding changeFor changesBy changeBy lineFor found
 found-line p before x [] = refl
 found-line p before x (l ∷ ls) = go (eqb (l .key) x) (found-line p before x ls)
@@ -68,7 +70,10 @@ below-keys x h = go (order x keysEnd)
     go (equal l) = absurd (true≢false (sym h ∙ beyond-keys x (omega arith)))
     go (above l) = absurd (true≢false (sym h ∙ beyond-keys x (omega arith)))
 
-changes-rise : (p : Plan) (k : Known) (named before last : ℕ) (ls : List Line) → ValidFrom named before last ls → Rising before keysEnd (changesBy p k ls)
+changes-rise :
+    (p : Plan) (k : Known) (named before last : ℕ) (ls : List Line)
+    → ValidFrom named before last ls
+    → Rising before keysEnd (changesBy p k ls)
 unfolding ValidFrom Rising changesBy changeBy
 changes-rise p k named before last [] v = tt
 changes-rise p k named before last (l ∷ ls) v =
@@ -91,7 +96,11 @@ word-after : (t : Bool) (o q : Offer) (w : ℕ) → wordOf q ≡ w → cond t (w
 word-after true o q w e = refl
 word-after false o q w e = sym e
 
-word-closed : (c t : Bool) (day d : ℕ) (q : Offer) (w : ℕ) → leb day d ≡ t → wordOf q ≡ w → cond (c && t) 0 w ≡ wordOf (changed (cond c (from day Closed) nothing) d q)
+word-closed :
+    (c t : Bool) (day d : ℕ) (q : Offer) (w : ℕ)
+    → leb day d ≡ t
+    → wordOf q ≡ w
+    → cond (c && t) 0 w ≡ wordOf (changed (cond c (from day Closed) nothing) d q)
 word-closed true true day d q w h e = sym (closed-word Closed .1 refl) ∙ ap (λ (u : Bool). wordOf (cond u Closed q)) (sym h)
 word-closed true false day d q w h e = sym e ∙ ap (λ (u : Bool). wordOf (cond u Closed q)) (sym h)
 word-closed false t day d q w h e = sym e

@@ -36,7 +36,10 @@ earlier-or r x y late = go (ltb (max r x) late) refl (ltb (max r y) late) refl
     go false e true f = let h : max r (min x y) < late = omega (arith, ltb-true (max r y) late f) in sym (lt-ltb (max r (min x y)) late h)
     go false e false f = let h : late ≤ max r (min x y) = omega (arith, ltb-false (max r x) late e, ltb-false (max r y) late f) in sym (le-ltb (max r (min x y)) late h)
 
-some-earlier : (late : ℕ) (n : Notice) (ls : List Line) → late ≤ 65000 → someEarlier late n ls ≡ ltb (max (n .received) (earliest ls)) late
+some-earlier :
+    (late : ℕ) (n : Notice) (ls : List Line)
+    → late ≤ 65000
+    → someEarlier late n ls ≡ ltb (max (n .received) (earliest ls)) late
 unfolding someEarlier earliest
 some-earlier late n [] h =
     let l : late ≤ max (n .received) 65000 = omega arith in
@@ -93,15 +96,25 @@ module _ (m : Summary) (n : Notice) (s : Summed m n) (period : ℕ) (before : Kn
           ap₂ (λ (k r : ℕ). cond (eqb k replacement) (max (max r (m .earliest)) (r + period)) (r + period)) (sym (s .kind)) (sym (s .received))
           ∙ ap (λ (e : ℕ). cond (eqb (n .kind) replacement) (max (max (n .received) e) (n .received + period)) (n .received + period)) (sym (s .earliest-day))
 
-      first : (ls : List Line) → 1 ≤ length ls → n .kind ≡ 4 → ValidFrom (n .country) 0 0 ls → max (max (n .received) (earliest ls)) (n .received + period) ≡ firstNoticed period n ls
+      first :
+          (ls : List Line)
+          → 1 ≤ length ls
+          → n .kind ≡ 4
+          → ValidFrom (n .country) 0 0 ls
+          → max (max (n .received) (earliest ls)) (n .received + period) ≡ firstNoticed period n ls
       first [] h k w = absurd (omega arith)
       first (l ∷ ls) h k w = ap (λ (d : ℕ). max (max (n .received) d) (n .received + period)) (first-day (n .country) l ls (v .named k) w)
 
-      go : (t : Bool) → eqb (n .kind) replacement ≡ t → cond (eqb (m .kind) replacement) (max (max (m .received) (m .earliest)) (m .received + period)) (m .received + period) ≡ cond (eqb (n .kind) replacement) (firstNoticed period n (n .lines)) (floorOf period n)
+      go :
+          (t : Bool)
+          → eqb (n .kind) replacement ≡ t
+          → cond (eqb (m .kind) replacement) (max (max (m .received) (m .earliest)) (m .received + period)) (m .received + period) ≡ cond (eqb (n .kind) replacement) (firstNoticed period n (n .lines)) (floorOf period n)
       go true e = same-fields ∙ rw e (first (n .lines) (v .some-lines) (eqb-true _ _ e) (v .lines-valid))
       go false e = same-fields ∙ rw e
 
-  latest-swap : (l : Line) (a : ℕ) (ls : List Line) → latestBy (planOf m period (before .latest)) before (max a (effective period before n l)) ls ≡ max (effective period before n l) (latestBy (planOf m period (before .latest)) before a ls)
+  latest-swap :
+      (l : Line) (a : ℕ) (ls : List Line)
+      → latestBy (planOf m period (before .latest)) before (max a (effective period before n l)) ls ≡ max (effective period before n l) (latestBy (planOf m period (before .latest)) before a ls)
   unfolding latestBy
   latest-swap l a [] = omega arith
   latest-swap l a (y ∷ ls) =
@@ -111,7 +124,9 @@ module _ (m : Summary) (n : Notice) (s : Summed m n) (period : ℕ) (before : Kn
       ap (λ (d : ℕ). latestBy (planOf m period (before .latest)) before d ls) o ∙ latest-swap l (max a f) ls
 
   -- The latest effective day.
-  pub latest-is : (ls : List Line) → latestBy (planOf m period (before .latest)) before (before .latest) ls ≡ latestEffective period before n ls
+  pub latest-is :
+      (ls : List Line)
+      → latestBy (planOf m period (before .latest)) before (before .latest) ls ≡ latestEffective period before n ls
   unfolding latestBy latestEffective
   latest-is [] = refl
   latest-is (l ∷ ls) =

@@ -33,9 +33,13 @@ fn merge(
     write: bool,
 ) -> Merged
     requires { ⌜ (sound (now old) ≡ true) × (linesRead (now notice) m ≡ lines (sentLines (now notice) m)) × (m .lines ≤ 65535) ⌝ }
-    requires { ⌜ (write ≡ true → 4 + length (mergedBy (now old) plan (now marks) (sentLines (now notice) m)) * 3 ≤ length (now new)) ⌝ }
-    ensures { λ r. ⌜ (r .count ≡ length (mergedBy (now (old .entry)) plan (now (marks .entry)) (sentLines (now (notice .entry)) m))) × (r .latest ≡ latestBy plan (inBook (now (old .entry))) (latestOf (now (old .entry))) (sentLines (now (notice .entry)) m)) ⌝ }
-    ensures { λ _. ⌜ now (new .exit) ≡ stored write (now (new .entry)) 4 (wordsOf (mergedBy (now (old .entry)) plan (now (marks .entry)) (sentLines (now (notice .entry)) m))) ⌝ }
+    requires { ⌜ (write ≡ true → 4 + length (mergedBy (now old) plan (now marks) (sentLines (now notice) m)) * 3 ≤ length (now
+        new)) ⌝ }
+    ensures { λ r. ⌜ (r .count ≡ length (mergedBy (now (old .entry)) plan (now (marks .entry)) (sentLines (now (notice
+        .entry)) m))) × (r .latest ≡ latestBy plan (inBook (now (old .entry))) (latestOf (now (old .entry))) (sentLines (now
+        (notice .entry)) m)) ⌝ }
+    ensures { λ _. ⌜ now (new .exit) ≡ stored write (now (new .entry)) 4 (wordsOf (mergedBy (now (old .entry)) plan (now
+        (marks .entry)) (sentLines (now (notice .entry)) m))) ⌝ }
 {
     let mut place = Place {
         at: book::HEADER_WORDS,
@@ -73,7 +77,9 @@ fn merge(
 fn fill(old: &[u64], notice: &[u8], m: Summary, plan: Plan, marks: &[u8; 1000], new: &mut [u64])
     requires { ⌜ (sound (now old) ≡ true) × (linesRead (now notice) m ≡ lines (sentLines (now notice) m)) × (m .lines ≤ 65535) ⌝ }
     requires { ⌜ 4 + length (mergedBy (now old) plan (now marks) (sentLines (now notice) m)) * 3 ≤ length (now new) ⌝ }
-    ensures { λ _. ⌜ now (new .exit) ≡ bookOf (length (now (new .entry))) (periodOf (now (old .entry))) (m .received) (latestBy plan (inBook (now (old .entry))) (latestOf (now (old .entry))) (sentLines (now (notice .entry)) m)) (mergedBy (now (old .entry)) plan (now (marks .entry)) (sentLines (now (notice .entry)) m)) ⌝ }
+    ensures { λ _. ⌜ now (new .exit) ≡ bookOf (length (now (new .entry))) (periodOf (now (old .entry))) (m .received)
+        (latestBy plan (inBook (now (old .entry))) (latestOf (now (old .entry))) (sentLines (now (notice .entry)) m))
+        (mergedBy (now (old .entry)) plan (now (marks .entry)) (sentLines (now (notice .entry)) m)) ⌝ }
 {
     let done = merge(old, notice, m, plan, marks, new, true);
     book::clear(new, book::HEADER_WORDS + done.count * book::ENTRY_WORDS);

@@ -287,9 +287,11 @@ fn put_unlisted(
     write: bool,
 ) -> usize
     requires { ⌜ (at + left * 3 ≤ length (now old)) × (count ≤ 1000000) ⌝ }
-    requires { ⌜ (write ≡ true → 4 + (count + length (unlistedAs closed day e (entriesFrom (now old) at left))) * 3 ≤ length (now new)) ⌝ }
+    requires { ⌜ (write ≡ true → 4 + (count + length (unlistedAs closed day e (entriesFrom (now old) at left))) * 3 ≤ length
+        (now new)) ⌝ }
     ensures { λ r. ⌜ r ≡ count + length (unlistedAs closed day e (entriesFrom (now (old .entry)) at left)) ⌝ }
-    ensures { λ _. ⌜ now (new .exit) ≡ stored write (now (new .entry)) (4 + count * 3) (wordsOf (unlistedAs closed day e (entriesFrom (now (old .entry)) at left))) ⌝ }
+    ensures { λ _. ⌜ now (new .exit) ≡ stored write (now (new .entry)) (4 + count * 3) (wordsOf (unlistedAs closed day e
+        (entriesFrom (now (old .entry)) at left))) ⌝ }
 {
     if !closed {
         put(new, count, e, write);
@@ -324,10 +326,15 @@ fn pass_unlisted(
     new: &mut [u64],
     write: bool,
 ) -> Place
-    requires { ⌜ (from .at + from .left * 3 ≤ length (now old)) × (from .left ≤ 65535) × (from .count + 2 * from .left ≤ 300000) ⌝ }
-    requires { ⌜ (write ≡ true → 4 + (from .count + length (gapBelow below (closesBy plan (now marks)) (plan .closing) (entriesFrom (now old) (from .at) (from .left)))) * 3 ≤ length (now new)) ⌝ }
-    ensures { λ r. ⌜ Passed (now (old .entry)) from r (gapBelow below (closesBy plan (now (marks .entry))) (plan .closing) (entriesFrom (now (old .entry)) (from .at) (from .left))) (restFrom below (entriesFrom (now (old .entry)) (from .at) (from .left))) ⌝ }
-    ensures { λ _. ⌜ now (new .exit) ≡ stored write (now (new .entry)) (4 + from .count * 3) (wordsOf (gapBelow below (closesBy plan (now (marks .entry))) (plan .closing) (entriesFrom (now (old .entry)) (from .at) (from .left)))) ⌝ }
+    requires { ⌜ (from .at + from .left * 3 ≤ length (now old)) × (from .left ≤ 65535) × (from .count + 2 * from .left ≤
+        300000) ⌝ }
+    requires { ⌜ (write ≡ true → 4 + (from .count + length (gapBelow below (closesBy plan (now marks)) (plan .closing)
+        (entriesFrom (now old) (from .at) (from .left)))) * 3 ≤ length (now new)) ⌝ }
+    ensures { λ r. ⌜ Passed (now (old .entry)) from r (gapBelow below (closesBy plan (now (marks .entry))) (plan .closing)
+        (entriesFrom (now (old .entry)) (from .at) (from .left))) (restFrom below (entriesFrom (now (old .entry)) (from .at)
+        (from .left))) ⌝ }
+    ensures { λ _. ⌜ now (new .exit) ≡ stored write (now (new .entry)) (4 + from .count * 3) (wordsOf (gapBelow below
+        (closesBy plan (now (marks .entry))) (plan .closing) (entriesFrom (now (old .entry)) (from .at) (from .left)))) ⌝ }
 {
     let mut at = from.at;
     let mut left = from.left;
@@ -348,10 +355,13 @@ fn pass_unlisted(
 
 // Keeps the entries of a listed code that stand before its line's effective day.
 fn keep_listed(old: &[u64], from: Place, change: Entry, new: &mut [u64], write: bool) -> Kept
-    requires { ⌜ (from .at + from .left * 3 ≤ length (now old)) × (from .left ≤ 65535) × (from .count + 2 * from .left ≤ 300000) ⌝ }
-    requires { ⌜ (write ≡ true → 4 + (from .count + length (keptOf change (entriesFrom (now old) (from .at) (from .left)))) * 3 ≤ length (now new)) ⌝ }
+    requires { ⌜ (from .at + from .left * 3 ≤ length (now old)) × (from .left ≤ 65535) × (from .count + 2 * from .left ≤
+        300000) ⌝ }
+    requires { ⌜ (write ≡ true → 4 + (from .count + length (keptOf change (entriesFrom (now old) (from .at) (from .left)))) *
+        3 ≤ length (now new)) ⌝ }
     ensures { λ r. ⌜ PassedListed (now (old .entry)) from r change (entriesFrom (now (old .entry)) (from .at) (from .left)) ⌝ }
-    ensures { λ _. ⌜ now (new .exit) ≡ stored write (now (new .entry)) (4 + from .count * 3) (wordsOf (keptOf change (entriesFrom (now (old .entry)) (from .at) (from .left)))) ⌝ }
+    ensures { λ _. ⌜ now (new .exit) ≡ stored write (now (new .entry)) (4 + from .count * 3) (wordsOf (keptOf change
+        (entriesFrom (now (old .entry)) (from .at) (from .left)))) ⌝ }
 {
     let mut at = from.at;
     let mut left = from.left;
@@ -385,10 +395,14 @@ fn keep_listed(old: &[u64], from: Place, change: Entry, new: &mut [u64], write: 
 
 // Passes the entries of a listed code, and puts its line's change after those that stay.
 fn pass_listed(old: &[u64], from: Place, change: Entry, new: &mut [u64], write: bool) -> Place
-    requires { ⌜ (from .at + from .left * 3 ≤ length (now old)) × (from .left ≤ 65535) × (from .count + 2 * from .left ≤ 300000) ⌝ }
-    requires { ⌜ (write ≡ true → 4 + (from .count + length (listedGroup change 0 (entriesFrom (now old) (from .at) (from .left)))) * 3 ≤ length (now new)) ⌝ }
-    ensures { λ r. ⌜ Passed (now (old .entry)) from r (listedGroup change 0 (entriesFrom (now (old .entry)) (from .at) (from .left))) (restAfter (change .key) (entriesFrom (now (old .entry)) (from .at) (from .left))) ⌝ }
-    ensures { λ _. ⌜ now (new .exit) ≡ stored write (now (new .entry)) (4 + from .count * 3) (wordsOf (listedGroup change 0 (entriesFrom (now (old .entry)) (from .at) (from .left)))) ⌝ }
+    requires { ⌜ (from .at + from .left * 3 ≤ length (now old)) × (from .left ≤ 65535) × (from .count + 2 * from .left ≤
+        300000) ⌝ }
+    requires { ⌜ (write ≡ true → 4 + (from .count + length (listedGroup change 0 (entriesFrom (now old) (from .at) (from
+        .left)))) * 3 ≤ length (now new)) ⌝ }
+    ensures { λ r. ⌜ Passed (now (old .entry)) from r (listedGroup change 0 (entriesFrom (now (old .entry)) (from .at) (from
+        .left))) (restAfter (change .key) (entriesFrom (now (old .entry)) (from .at) (from .left))) ⌝ }
+    ensures { λ _. ⌜ now (new .exit) ≡ stored write (now (new .entry)) (4 + from .count * 3) (wordsOf (listedGroup change 0
+        (entriesFrom (now (old .entry)) (from .at) (from .left)))) ⌝ }
 {
     let k = keep_listed(old, from, change, new, write);
     if k.status == change.offer {
@@ -416,10 +430,15 @@ fn pass_line(
     new: &mut [u64],
     write: bool,
 ) -> Place
-    requires { ⌜ (from .at + from .left * 3 ≤ length (now old)) × (from .left ≤ 65535) × (from .count + 2 * from .left ≤ 300000) ⌝ }
-    requires { ⌜ (write ≡ true → 4 + (from .count + length (lineEntries change (closesBy plan (now marks)) (plan .closing) (entriesFrom (now old) (from .at) (from .left)))) * 3 ≤ length (now new)) ⌝ }
-    ensures { λ r. ⌜ Passed (now (old .entry)) from r (lineEntries change (closesBy plan (now (marks .entry))) (plan .closing) (entriesFrom (now (old .entry)) (from .at) (from .left))) (lineRest change (entriesFrom (now (old .entry)) (from .at) (from .left))) ⌝ }
-    ensures { λ _. ⌜ now (new .exit) ≡ stored write (now (new .entry)) (4 + from .count * 3) (wordsOf (lineEntries change (closesBy plan (now (marks .entry))) (plan .closing) (entriesFrom (now (old .entry)) (from .at) (from .left)))) ⌝ }
+    requires { ⌜ (from .at + from .left * 3 ≤ length (now old)) × (from .left ≤ 65535) × (from .count + 2 * from .left ≤
+        300000) ⌝ }
+    requires { ⌜ (write ≡ true → 4 + (from .count + length (lineEntries change (closesBy plan (now marks)) (plan .closing)
+        (entriesFrom (now old) (from .at) (from .left)))) * 3 ≤ length (now new)) ⌝ }
+    ensures { λ r. ⌜ Passed (now (old .entry)) from r (lineEntries change (closesBy plan (now (marks .entry))) (plan .closing)
+        (entriesFrom (now (old .entry)) (from .at) (from .left))) (lineRest change (entriesFrom (now (old .entry)) (from .at)
+        (from .left))) ⌝ }
+    ensures { λ _. ⌜ now (new .exit) ≡ stored write (now (new .entry)) (4 + from .count * 3) (wordsOf (lineEntries change
+        (closesBy plan (now (marks .entry))) (plan .closing) (entriesFrom (now (old .entry)) (from .at) (from .left)))) ⌝ }
 {
     let key = change.key;
     let to = pass_unlisted(old, from, key, plan, marks, new, write);
