@@ -2,19 +2,21 @@
 -- the statuses after it, all worked from what was known before it.
 use mathlib.Core.Path.{_≡_, refl}
 use mathlib.Core.Bool.{Bool, true, false, cond, _&&_, _||_}
-use mathlib.Core.List.{List, [], _∷_}
+use mathlib.Core.List.{List, [], _∷_, map}
 use Prim.Native.Nat.{ℕ, _+_, _-_, max}
 use lib.Dec.{eqb, leb, ltb}
-use Rattle.dial_code.specs.Key.{digitsOfKey}
-use Rattle.dial_code.specs.CountryCode.{countryOfKey}
+use Rattle.dial_code.specs.Key.{key, placesOf, digitsOfKey}
+use Rattle.dial_code.specs.CountryCode.{country, countryOfKey}
 use Rattle.dial_code.specs.declared.Country.{Country}
 use Rattle.dial_code.specs.declared.Country.the-variants.{Code, None}
+use Rattle.rate.specs.Price.{rate}
 use Rattle.rate.specs.declared.Rate.{Rate}
 use Rattle.rate.specs.declared.Offer.{Offer}
 use Rattle.rate.specs.declared.Offer.the-variants.{Closed, Blocked, Open}
+use Rattle.notice.specs.LineRule.{lineOf}
 use Rattle.notice.specs.NoticeRule.{Notice, full, partial, update, replacement}
 use Rattle.notice.specs.declared.Line.{Line}
-use Rattle.book.specs.Status.{matched}
+use Rattle.book.specs.Status.{longest, matched}
 
 -- What the notices before give: the status of each code, by its key, on each day, and the latest effective day of their lines.
 pub record Known : Type 0 where
@@ -130,3 +132,73 @@ afterNotice period before n =
       status = λ k d. changed (changeOf period before n k) d (before .status k d);
       latest = latestEffective period before n (n .lines);
     }
+
+-- Closed examples. Before: 79 open at 0.06 from day 10, 44 blocked, latest effective day 10. The notice: an update received on
+-- day 100, N = 7, whose lines list no day, day 120 and day 90.
+standing : Known
+standing =
+    record {
+      status = λ k d. cond (eqb k (key (4 ∷ 4 ∷ []))) Blocked (cond (eqb k (key (7 ∷ 9 ∷ [])) && leb 10 d) (Open (rate 6000000) 1 1) Closed);
+      latest = 10;
+    }
+
+sent : ℕ → List Line → Notice
+sent kind ls = record { kind = kind; received = 100; country = 0; lines = ls }
+
+line : List ℕ → Offer → ℕ → Line
+line ds offer day = lineOf (key ds) offer day
+
+-- a longer code is compared with the shorter code that prices it; equal rates, and blocked or missing offers, are no increase;
+-- deletes and blocks are
+increase :
+    map (isIncrease standing (sent update []))
+    (line (7 ∷ 9 ∷ 0 ∷ 3 ∷ []) (Open (rate 6000001) 1 1) 0
+    ∷ line (7 ∷ 9 ∷ 0 ∷ 3 ∷ []) (Open (rate 6000000) 60 60) 0
+    ∷ line (4 ∷ 4 ∷ 2 ∷ []) (Open (rate 6000001) 1 1) 0
+    ∷ line (9 ∷ 1 ∷ []) (Open (rate 6000001) 1 1) 0
+    ∷ line (9 ∷ 1 ∷ []) Closed 0
+    ∷ line (9 ∷ 1 ∷ []) Blocked 0
+    ∷ [])
+    ≡ true ∷ false ∷ false ∷ false ∷ true ∷ true ∷ []
+unfolding standing sent line key digitsOfKey placesOf matched longest
+increase = refl
+
+-- wanted days, and effective days: an increase waits for the floor, day 107, unless it is listed later; another line does not
+days :
+    map (effective 7 standing (sent update []))
+    (line (9 ∷ 1 ∷ []) (Open (rate 1) 1 1) 0
+    ∷ line (9 ∷ 1 ∷ []) (Open (rate 1) 1 1) 121
+    ∷ line (9 ∷ 1 ∷ []) (Open (rate 1) 1 1) 91
+    ∷ line (9 ∷ 1 ∷ []) Blocked 0
+    ∷ line (9 ∷ 1 ∷ []) Closed 121
+    ∷ [])
+    ≡ 100 ∷ 120 ∷ 100 ∷ 107 ∷ 120 ∷ []
+unfolding standing sent line effective someEarlier key digitsOfKey placesOf matched longest
+days = refl
+
+-- out of sequence: a wanted day before the latest effective day, and not on it; then every line waits for the floor
+sequence : someEarlier 100 (sent update []) (line (9 ∷ 1 ∷ []) Blocked 0 ∷ []) ∷ someEarlier 101 (sent update []) (line (9 ∷ 1 ∷ []) Blocked 0 ∷ []) ∷ [] ≡ false ∷ true ∷ []
+unfolding sent line someEarlier
+sequence = refl
+
+-- what the kinds close of 44, where a line lists 442 or 91; and when
+closed :
+    closes (sent full []) (key (4 ∷ 4 ∷ []))
+    ∷ closes (sent partial (line (4 ∷ 4 ∷ 2 ∷ []) Blocked 0 ∷ [])) (key (4 ∷ 4 ∷ []))
+    ∷ closes (sent partial (line (9 ∷ 1 ∷ []) Blocked 0 ∷ [])) (key (4 ∷ 4 ∷ []))
+    ∷ closes (sent update (line (4 ∷ 4 ∷ 2 ∷ []) Blocked 0 ∷ [])) (key (4 ∷ 4 ∷ []))
+    ∷ closes (record { kind = replacement; received = 100; country = 44; lines = [] }) (key (4 ∷ 4 ∷ []))
+    ∷ closes (record { kind = replacement; received = 100; country = 91; lines = [] }) (key (4 ∷ 4 ∷ []))
+    ∷ []
+    ≡ true ∷ true ∷ false ∷ false ∷ true ∷ false ∷ []
+unfolding sent line closes namedBy key countryOfKey country digitsOfKey
+closed = refl
+
+closing-days :
+    closing 7 (sent partial (line (9 ∷ 1 ∷ []) Blocked 121 ∷ []))
+    ∷ closing 7 (sent replacement (line (9 ∷ 1 ∷ []) Blocked 121 ∷ []))
+    ∷ closing 7 (sent replacement (line (9 ∷ 1 ∷ []) Blocked 0 ∷ []))
+    ∷ []
+    ≡ 107 ∷ 120 ∷ 107 ∷ []
+unfolding sent line closing
+closing-days = refl

@@ -128,3 +128,17 @@ p1-line :
 unfolding readLine readCode codeField readTerms readRate readIncrements readListed listedField
     readRanged readNumber key digits isCode country priceOf
 p1-line = refl
+
+-- P7 and P8 in lines of code 1: 0.945046784, 9.990000004 and 9.990000005, all with nine decimals
+p7-p8-lines :
+    readLine 0 0 0 (1 ∷ 1 ∷ 2 ∷ 9 ∷ 128 ∷ 138 ∷ 209 ∷ 194 ∷ 3 ∷ 1 ∷ 1 ∷ 0 ∷ [])
+    ∷ readLine 0 0 0 (1 ∷ 1 ∷ 2 ∷ 9 ∷ 132 ∷ 155 ∷ 205 ∷ 155 ∷ 37 ∷ 1 ∷ 1 ∷ 0 ∷ [])
+    ∷ readLine 0 0 0 (1 ∷ 1 ∷ 2 ∷ 9 ∷ 133 ∷ 155 ∷ 205 ∷ 155 ∷ 37 ∷ 1 ∷ 1 ∷ 0 ∷ [])
+    ∷ []
+    ≡ line.Read (lineOf (key (1 ∷ [])) (Open (rate 94504678) 1 1) 0) 12
+    ∷ line.Read (lineOf (key (1 ∷ [])) (Open (rate 999000000) 1 1) 0) 12
+    ∷ line.Read (lineOf (key (1 ∷ [])) Blocked 0) 12
+    ∷ []
+unfolding readLine readCode codeField readTerms readRate readIncrements readListed listedField
+    readRanged readNumber key digits isCode country priceOf
+p7-p8-lines = refl
