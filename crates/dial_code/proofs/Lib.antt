@@ -6,5 +6,6 @@ pub mod Powers
 pub mod CountryLaws
 pub mod CodeLaws
 pub mod KeyCode
+pub mod SentNumbers
 pub mod Spelling
 pub mod CountedKeys

@@ -48,6 +48,12 @@ unfoldable pub numberKey : List ℕ → Keyed
 unfolding key isNumber
 numberKey s = cond (every isAscii s && isNumber (map digitOf s)) (Key (key (map digitOf s))) (Refused notANumber)
 
+-- The key of a number sent as a count of digits and a value, or that it is none.
+unfoldable pub sentNumberKey : ℕ → ℕ → Keyed
+unfolding key digits isWritten isNumber
+sentNumberKey count v =
+    cond (isWritten count v && isNumber (digits count v)) (Key (key (digits count v))) (Refused notANumber)
+
 -- The key of a key's first n digits: the key less its remainder by 11^(15 − n).
 unfoldable pub prefixKey : ℕ → ℕ → ℕ
 prefixKey w n = w - w % 11 ^ (mostDigits - n)
@@ -97,6 +103,27 @@ number-keys :
     ≡ Key 759499667166482 ∷ Refused 40 ∷ Refused 40 ∷ Refused 40 ∷ Refused 40 ∷ Refused 40 ∷ []
 unfolding numberKey
 number-keys = refl
+
+-- 1, 0, 01, counts of 0 and 16, a value too large for its count, fifteen digits
+sent-keys :
+    sentNumberKey 1 1
+    ∷ sentNumberKey 1 0
+    ∷ sentNumberKey 2 1
+    ∷ sentNumberKey 0 0
+    ∷ sentNumberKey 16 1000000000000000
+    ∷ sentNumberKey 1 10
+    ∷ sentNumberKey 15 100000000000000
+    ∷ []
+    ≡ Key 759499667166482
+    ∷ Refused 40
+    ∷ Refused 40
+    ∷ Refused 40
+    ∷ Refused 40
+    ∷ Refused 40
+    ∷ Key (key (1 ∷ 0 ∷ 0 ∷ 0 ∷ 0 ∷ 0 ∷ 0 ∷ 0 ∷ 0 ∷ 0 ∷ 0 ∷ 0 ∷ 0 ∷ 0 ∷ 0 ∷ []))
+    ∷ []
+unfolding sentNumberKey
+sent-keys = refl
 
 -- the first two digits of 234, all three, none
 prefixes :

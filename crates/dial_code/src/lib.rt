@@ -2,7 +2,7 @@
 ghost use mathlib.Core.Path.{_≡_};
 ghost use Prim.Native.Nat.{_<_, _^_};
 ghost use lib.Dec.{eqb};
-ghost use Rattle.dial_code.specs.Key.{codeKey, numberKey, prefixKey, key, placesOf};
+ghost use Rattle.dial_code.specs.Key.{codeKey, numberKey, sentNumberKey, prefixKey, key, placesOf};
 ghost use Rattle.dial_code.specs.CountryCode.{countryOf, countryOfKey, twoDigits};
 ghost use Rattle.dial_code.specs.Code.{isCodeKey, codeOf};
 
@@ -113,6 +113,22 @@ pub fn number_key(number: &[u8]) -> Keyed
         i += 1;
     }
     Keyed::Key(key)
+}
+
+// The key of a number sent as a count of digits and a value; refusal 40 where one is outside its range or the first digit is 0.
+pub fn sent_number_key(count: u64, value: u64) -> Keyed
+    ensures { λ r. ⌜ r ≡ sentNumberKey count value ⌝ }
+{
+    match code_key(count, value) {
+        Keyed::Refused(_) => Keyed::Refused(refusal::NOT_A_NUMBER),
+        Keyed::Key(key) => {
+            // The first place holds the digit 0.
+            if key < 2 * FIRST_PLACE {
+                return Keyed::Refused(refusal::NOT_A_NUMBER);
+            }
+            Keyed::Key(key)
+        }
+    }
 }
 
 // The key of the first n digits of the code that a word is the key of.

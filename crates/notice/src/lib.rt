@@ -92,8 +92,8 @@ pub enum Scan {
     Refused(u64),
 }
 
-// The number at a position, from least to most.
-fn read_ranged(s: &[u8], at: usize, least: u64, most: u64) -> Number
+// The number at a position, from least to most: 1, 2, then 4.
+pub fn read_ranged(s: &[u8], at: usize, least: u64, most: u64) -> Number
     ensures { λ r. ⌜ r ≡ readRanged (now (s .entry)) at least most ⌝ }
 {
     match varint::read_number(s, at) {

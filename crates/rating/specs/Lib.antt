@@ -1,2 +1,3 @@
 -- The rules of rating calls.
 pub mod Call
+pub mod Batch
