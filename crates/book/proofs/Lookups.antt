@@ -8,29 +8,27 @@ use borrow.Author.Tests.{eq-eqb, ne-eqb, lt-ltb, le-ltb}
 use lib.Dec.{eqb, ltb}
 use lib.ListN.{length}
 use Rattle.refusal.specs.Refusal.{notANumber, bookTooShort, bookNotSound, timeOutOfRange}
-use Rattle.dial_code.specs.Digits.{every, isAscii, digitOf, isNumber}
+use Rattle.dial_code.specs.Digits.{digitOf, isDialled}
 use Rattle.dial_code.specs.Key.{key, digitsOfKey, numberKey}
 use Rattle.dial_code.specs.declared.Keyed.the-variants.{Key, Refused as NoKey}
-use Rattle.dial_code.proofs.Tests.{both}
-use Rattle.dial_code.proofs.DigitLaws.{number-facts}
+use Rattle.dial_code.proofs.DigitLaws.{dialled-digits}
 use Rattle.dial_code.proofs.KeyLaws.{digits-back}
 use Rattle.rate.specs.Time.{isDay}
 use Rattle.rate.specs.declared.Day.{Day}
 use Rattle.book.specs.Layout.{headerWords}
 use Rattle.book.specs.Soundness.{sound}
 use Rattle.book.specs.Status.{matched}
-use Rattle.book.specs.Answers.{bookRefusal, isDialled, lookup}
+use Rattle.book.specs.Answers.{bookRefusal, lookup}
 use Rattle.book.specs.declared.Lookup.the-variants.{Found, Refused}
 use Rattle.book.proofs.Matching.{statusOn}
 
 number-test : (s : List ℕ) → numberKey s ≡ cond (isDialled s) (Key (key (map digitOf s))) (NoKey notANumber)
-unfolding numberKey isDialled
+unfolding numberKey
 number-test s = refl
 
 dialled-facts : (s : List ℕ) → isDialled s ≡ true → digitsOfKey (key (map digitOf s)) ≡ map digitOf s
-unfolding isDialled
 dialled-facts s h =
-    let n = number-facts (map digitOf s) (both (every isAscii s) (isNumber (map digitOf s)) h .1) in
+    let n = dialled-digits s h in
     digits-back (map digitOf s) (n .1) (n .0)
 
 -- What the key of a number shows: the number is one, and its digits and its key determine each other.

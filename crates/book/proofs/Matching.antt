@@ -19,12 +19,12 @@ use Rattle.dial_code.proofs.CodeLaws.{length-places, digits-places, no-first-di
 use Rattle.rate.specs.OfferWord.{offerOf}
 use Rattle.rate.specs.declared.Offer.{Offer}
 use Rattle.rate.specs.declared.Offer.the-variants.{Closed, Blocked, Open}
-use Rattle.rate.specs.declared.Stored.{Stored}
 use Rattle.book.specs.Layout.{entriesOf}
 use Rattle.book.specs.Soundness.{sound}
-use Rattle.book.specs.Status.{statusIn, heldOffer, offerIn, answer, isStanding, standing, longest, matched}
+use Rattle.book.specs.Search.{offerFound, truncated, bestFound}
+use Rattle.book.specs.Status.{heldOffer, offerIn, answer, isStanding, standing, longest, matched}
 use Rattle.book.specs.declared.Answer.{Answer}
-use Rattle.book.specs.declared.Entry.{Entry}
+use Rattle.book.proofs.Halving.{offer-found}
 use Rattle.book.proofs.SoundLists.{entries-sound}
 use Rattle.book.proofs.Statuses.{starts-closed, no-code}
 
@@ -67,12 +67,7 @@ matched-alike f g ds e = longest-same f g ds (length ds) e
 pub matched-same : (f g : ℕ → Offer) (ds : List ℕ) → ((k : ℕ) → f k ≡ g k) → matched f ds ≡ matched g ds
 matched-same f g ds e = matched-alike f g ds (λ i. e (key (take i ds)))
 
--- No try is left, one try, and all digits tried.
-pub no-try : (f : ℕ → Offer) (ds : List ℕ) (n : ℕ) → n ≡ 0 → longest f ds n ≡ answer 0 Closed
-unfolding longest
-no-try f ds zero e = refl
-no-try f ds (suc n) e = absurd (omega arith)
-
+-- One try, and all digits tried.
 pub one-try :
     (f : ℕ → Offer) (ds : List ℕ) (n k : ℕ)
     → 0 < n
@@ -129,62 +124,78 @@ word-digits w =
 abbrev pub statusOn : List ℕ → ℕ → ℕ → Offer
 statusOn ws day k = offerIn (entriesOf ws) k day
 
--- A status word and what it stands for are the offer.
-pub as-offer :
-    (es : List Entry) (k d : ℕ) {w : ℕ} {o : Stored}
-    → w ≡ statusIn es k d
-    → o ≡ offerOf w
-    → offerIn es k d ≡ heldOffer o
-unfolding offerIn
-as-offer es k d p q = ap (λ (w : ℕ). heldOffer (offerOf w)) (sym p) ∙ ap heldOffer (sym q)
-
 -- A sound book has no status for key 0.
 pub none-at-zero : (ws : List ℕ) (day : ℕ) → sound ws ≡ true → isStanding (statusOn ws day 0) ≡ false
-unfolding offerOf
+unfolding offerIn offerOf
 none-at-zero ws day s =
     let es = entriesOf ws in
     let closed = starts-closed es 0 day ∙ no-code 0 0 0 0 es 0 day (entries-sound ws s) (no-first-digit 0 (lit< tt)) in
-    ap isStanding (as-offer es 0 day (sym closed) refl)
+    ap (λ (w : ℕ). isStanding (heldOffer (offerOf w))) closed
 
--- A key truncated place by place, in a sound book.
-module _ (ws : List ℕ) (w day : ℕ) (s : sound ws ≡ true) (q : key (digitsOfKey w) ≡ w) where
-  -- The whole key is tried first, then the key of the first 14 digits, and so on.
-  pub whole-key :
-      matched (statusOn ws day) (digitsOfKey w)
-      ≡ standing (statusOn ws day w) w (longest (statusOn ws day) (digitsOfKey w) 14)
-  whole-key =
-      let ds = digitsOfKey w in
-      let l = word-digits w .1 in
-      sym (more-tries (statusOn ws day) ds 15 (none-at-zero ws day s) l)
-      ∙ one-try (statusOn ws day) ds 15 w (omega arith) (sym q ∙ ap key (sym (take-all 15 ds l)))
+-- A word truncated place by place.
+module _ (f : ℕ → Offer) (w : ℕ) where
+  pub no-place : (n : ℕ) → n ≡ 0 → truncated f w n ≡ answer 0 Closed
+  unfolding truncated
+  no-place zero e = refl
+  no-place (suc n) e = absurd (omega arith)
 
-  -- The key of the first n digits is tried, then those of fewer.
-  pub truncated :
+  pub one-place :
       (n place : ℕ)
       → 0 < n
       → place ≡ 11 ^ (15 - n)
       → let k = w - w % place in
-      longest (statusOn ws day) (digitsOfKey w) n
-      ≡ standing (statusOn ws day k) k (longest (statusOn ws day) (digitsOfKey w) (n - 1))
-  unfolding prefixKey
-  truncated n place h e =
-      let d = word-digits w in
-      one-try (statusOn ws day) (digitsOfKey w) n (w - w % place) h
-      (rw e (sym (key-take n (digitsOfKey w) (d .0) (d .1) ∙ ap (λ (k : ℕ). prefixKey k n) q)))
+      truncated f w n ≡ standing (f k) k (truncated f w (n - 1))
+  unfolding truncated
+  one-place zero place h e = absurd (omega arith)
+  one-place (suc n) place h e = rw (e, sub-one)
 
-  -- The key that was last tried was closed.
+  -- The try of a key that is closed.
   pub closed-try :
-      (n place last : ℕ)
-      → matched (statusOn ws day) (digitsOfKey w) ≡ longest (statusOn ws day) (digitsOfKey w) n
+      (n place k : ℕ)
       → 0 < n
       → place ≡ 11 ^ (15 - n)
-      → last ≡ w - w % place
-      → isStanding (statusOn ws day last) ≡ false
-      → (matched (statusOn ws day) (digitsOfKey w) ≡ longest (statusOn ws day) (digitsOfKey w) (n - 1))
-      × (isStanding (statusOn ws day last) ≡ false)
-  closed-try n place last m h e k z =
+      → k ≡ w - w % place
+      → isStanding (f k) ≡ false
+      → truncated f w n ≡ truncated f w (n - 1)
+  closed-try n place k h e q z =
       let k₀ = w - w % place in
-      (m ∙ truncated n place h e ∙ passes (statusOn ws day k₀) k₀ _ (rw k at z), z)
+      one-place n place h e ∙ passes (f k₀) k₀ _ (rw q at z)
+
+  -- Truncations of a key are the keys of its digits' beginnings.
+  pub truncated-longest :
+      (g : ℕ → Offer)
+      → ((k : ℕ) → f k ≡ g k)
+      → key (digitsOfKey w) ≡ w
+      → (n : ℕ)
+      → truncated f w n ≡ longest g (digitsOfKey w) n
+  unfolding truncated longest
+  truncated-longest g same q zero = refl
+  truncated-longest g same q (suc n) =
+      let d = word-digits w in
+      let p = key-take (suc n) (digitsOfKey w) (d .0) (d .1) ∙ ap (λ (k : ℕ). prefixKey k (suc n)) q in
+      rw (p, same (prefixKey w (suc n)), truncated-longest g same q n)
+
+-- The status of a code on a day that halving finds.
+abbrev pub foundOn : List ℕ → ℕ → ℕ → Offer
+foundOn ws day k = offerFound ws k day
+
+-- The whole word is tried first.
+pub whole-word : (ws : List ℕ) (w day : ℕ) → bestFound ws w day ≡ standing (foundOn ws day w) w (truncated (foundOn ws day) w 14)
+unfolding bestFound
+whole-word ws w day =
+    let f : w - w % 1 ≡ w = omega arith in
+    one-place (foundOn ws day) w 15 1 (omega arith) refl ∙ rw f
+
+-- In a sound book the answer to a key is the longest match of its digits.
+pub best-found :
+    (ws : List ℕ) (w day : ℕ)
+    → sound ws ≡ true
+    → key (digitsOfKey w) ≡ w
+    → bestFound ws w day ≡ matched (statusOn ws day) (digitsOfKey w)
+unfolding bestFound
+best-found ws w day s q =
+    truncated-longest (foundOn ws day) w (statusOn ws day) (λ k. offer-found ws k day s) q 15
+    ∙ more-tries (statusOn ws day) (digitsOfKey w) 15 (none-at-zero ws day s) (word-digits w .1)
 
 -- The weight of a place is not 0.
 pub place-some : (n place : ℕ) → place ≡ 11 ^ (15 - n) → 0 < place

@@ -1,12 +1,12 @@
 -- What the calls on a book answer and leave (document 01, "Who can cause a refusal": the orders).
 use mathlib.Core.Path.{_≡_, refl}
-use mathlib.Core.Bool.{Bool, cond, _&&_}
+use mathlib.Core.Bool.{cond}
 use mathlib.Core.List.{List, [], _∷_, map}
 use Prim.Native.Nat.{ℕ}
 use lib.Dec.{eqb, leb, ltb}
 use lib.ListN.{length}
 use Rattle.refusal.specs.Refusal.{bookTooShort, bookNotSound, periodTooLong, notANumber, timeOutOfRange}
-use Rattle.dial_code.specs.Digits.{every, isAscii, digitOf, isNumber}
+use Rattle.dial_code.specs.Digits.{digitOf, isDialled}
 use Rattle.rate.specs.Time.{isDay}
 use Rattle.rate.specs.declared.Day.{Day}
 use Rattle.book.specs.Layout.{headerWords, mostPeriod, entriesOf, bookOf}
@@ -32,11 +32,6 @@ freshWords ws period = cond (eqb (freshRefusal (length ws) period) 0) (freshBook
 unfoldable pub bookRefusal : List ℕ → ℕ
 unfolding sound
 bookRefusal ws = cond (ltb (length ws) headerWords) bookTooShort (cond (sound ws) 0 bookNotSound)
-
--- A number given as ASCII digits.
-unfoldable pub isDialled : List ℕ → Bool
-unfolding isNumber
-isDialled s = every isAscii s && isNumber (map digitOf s)
 
 -- The answer to a number on a day: 20, 21, 40, 41, else the offer by longest match.
 unfoldable pub lookup : List ℕ → List ℕ → Day → Lookup

@@ -1,9 +1,153 @@
--- Where an entry stands to a code and a day.
-use mathlib.Core.Bool.{Bool, cond}
-use Prim.Native.Nat.{ℕ}
+-- The search by halving, over any words. In a sound book it finds what `Status` says (proofs/Halving.antt, Matching.antt); in any
+-- other, what it comes upon.
+use mathlib.Core.Path.{_≡_, refl}
+use mathlib.Core.Bool.{Bool, true, false, cond, _&&_}
+use mathlib.Core.List.{List, [], _∷_}
+use Prim.Native.Nat.{ℕ, zero, suc, _+_, _-_, _*_, _/_}
 use lib.Dec.{eqb, leb, ltb}
+use lib.ListN.{length}
+use Rattle.dial_code.specs.Digits.{mostDigits}
+use Rattle.dial_code.specs.Key.{key, prefixKey}
+use Rattle.rate.specs.Price.{rate}
+use Rattle.rate.specs.OfferWord.{offerOf}
+use Rattle.rate.specs.declared.Offer.{Offer}
+use Rattle.rate.specs.declared.Offer.the-variants.{Closed, Blocked, Open}
+use Rattle.book.specs.Layout.{headerWords, entryWords, countOf, entry, entryAt, bookOf}
+use Rattle.book.specs.Soundness.{soundHeader}
+use Rattle.book.specs.Status.{heldOffer, answer, standing}
+use Rattle.book.specs.declared.Answer.{Answer}
 use Rattle.book.specs.declared.Entry.{Entry}
 
 -- An entry of a smaller key, or of the key and not after the day.
 unfoldable pub notAfter : Entry → ℕ → ℕ → Bool
 notAfter e k d = cond (eqb (e .key) k) (leb (e .day) d) (ltb (e .key) k)
+
+-- The place that halving finds from `lo` to `hi`, in at most so many turns: it goes on behind the middle where that passes a
+-- test, and before it where not.
+unfoldable pub halved : (ℕ → Bool) → ℕ → ℕ → ℕ → ℕ
+halved test zero lo hi = lo
+halved test (suc n) lo hi =
+    elim (ltb lo hi) [
+      | true ↦
+          elim (test (lo + (hi - lo) / 2)) [
+            | true ↦ halved test n (lo + (hi - lo) / 2 + 1) hi
+            | false ↦ halved test n lo (lo + (hi - lo) / 2)
+          ]
+      | false ↦ lo
+    ]
+
+-- How many of the first entries stand no later than a code and a day, as halving finds by a test of single entries.
+abbrev pub upTo : List ℕ → ℕ → ℕ → ℕ → Bool
+upTo ws k d i = notAfter (entryAt ws (headerWords + i * entryWords)) k d
+
+unfoldable pub foundUpTo : List ℕ → ℕ → ℕ → ℕ → ℕ
+unfolding halved notAfter entryAt
+foundUpTo ws count k d = halved (upTo ws k d) count 0 count
+
+-- The offer word of the last of the first n entries where it is the code's, and closed where it is another's or there is none.
+unfoldable pub lastOffer : List ℕ → ℕ → ℕ → ℕ
+unfolding entryAt
+lastOffer ws n k =
+    let e = entryAt ws (headerWords + (n - 1) * entryWords) in
+    cond (eqb n 0) 0 (cond (eqb (e .key) k) (e .offer) 0)
+
+-- The offer word of a code on a day, as halving finds; closed where the words have no sound header.
+unfoldable pub statusFound : List ℕ → ℕ → ℕ → ℕ
+unfolding soundHeader foundUpTo lastOffer
+statusFound ws k d =
+    cond (leb headerWords (length ws) && soundHeader ws) (lastOffer ws (foundUpTo ws (countOf ws) k d) k) 0
+
+-- The status that is found, as an offer.
+unfoldable pub offerFound : List ℕ → ℕ → ℕ → Offer
+unfolding statusFound
+offerFound ws k d = heldOffer (offerOf (statusFound ws k d))
+
+-- The longest truncation of a word, to its first n places or fewer, whose status is open or blocked; else closed with key 0.
+unfoldable pub truncated : (ℕ → Offer) → ℕ → ℕ → Answer
+unfolding prefixKey
+truncated status w zero = answer 0 Closed
+truncated status w (suc n) = standing (status (prefixKey w (suc n))) (prefixKey w (suc n)) (truncated status w n)
+
+-- The answer to a word on a day: the word is tried, then its truncations, the longest first.
+unfoldable pub bestFound : List ℕ → ℕ → ℕ → Answer
+unfolding offerFound truncated
+bestFound ws w d = truncated (λ k. offerFound ws k d) w mostDigits
+
+-- the first three of five places pass, none, all, the one of one, only the middle; no turn
+places :
+    halved (λ i. ltb i 3) 5 0 5
+    ∷ halved (λ i. false) 5 0 5
+    ∷ halved (λ i. true) 5 0 5
+    ∷ halved (λ i. true) 1 0 1
+    ∷ halved (λ i. eqb i 2) 5 0 5
+    ∷ halved (λ i. true) 0 0 5
+    ∷ []
+    ≡ 3 ∷ 0 ∷ 5 ∷ 1 ∷ 3 ∷ 0 ∷ []
+unfolding halved
+places = refl
+
+k1 : ℕ
+k1 = key (2 ∷ 3 ∷ 4 ∷ 8 ∷ 0 ∷ [])
+
+k2 : ℕ
+k2 = key (2 ∷ 3 ∷ 4 ∷ 8 ∷ [])
+
+-- P1's book
+one : List ℕ
+one = 1 ∷ 7 ∷ 100 ∷ 100 ∷ k1 ∷ 100 ∷ 589824000259 ∷ []
+
+-- 2348 blocked from day 105 on, 23480 open from day 100 to 109: in order, and the other way round
+three : List ℕ
+three = bookOf 14 7 100 110 (entry k2 105 1 ∷ entry k1 100 259 ∷ entry k1 110 0 ∷ [])
+
+turned : List ℕ
+turned = bookOf 14 7 100 110 (entry k1 110 0 ∷ entry k1 100 259 ∷ entry k2 105 1 ∷ [])
+
+-- no word, no entry, three words; P1's entry under a count of 2, and under a period of 366
+none-found :
+    statusFound [] k1 100
+    ∷ statusFound (0 ∷ 7 ∷ 0 ∷ 0 ∷ []) k1 100
+    ∷ statusFound (1 ∷ 7 ∷ 100 ∷ []) 0 0
+    ∷ statusFound (2 ∷ 7 ∷ 100 ∷ 100 ∷ k1 ∷ 100 ∷ 589824000259 ∷ []) k1 100
+    ∷ statusFound (1 ∷ 366 ∷ 100 ∷ 100 ∷ k1 ∷ 100 ∷ 589824000259 ∷ []) k1 100
+    ∷ []
+    ≡ 0 ∷ 0 ∷ 0 ∷ 0 ∷ 0 ∷ []
+unfolding statusFound k1 key
+none-found = refl
+
+-- the day before, the day itself, keys before and behind
+one-found :
+    statusFound one k1 99 ∷ statusFound one k1 100 ∷ statusFound one k2 100 ∷ statusFound one (k1 + 1) 100 ∷ []
+    ≡ 0 ∷ 589824000259 ∷ 0 ∷ 0 ∷ []
+unfolding statusFound one k1 k2 key
+one-found = refl
+
+-- the entries in order, and two of them that a wrong order hides
+three-found :
+    statusFound three k2 105
+    ∷ statusFound three k1 99
+    ∷ statusFound three k1 109
+    ∷ statusFound three k1 110
+    ∷ statusFound turned k1 109
+    ∷ statusFound turned k2 105
+    ∷ []
+    ≡ 1 ∷ 0 ∷ 259 ∷ 0 ∷ 0 ∷ 0 ∷ []
+unfolding statusFound three turned bookOf k1 k2 key
+three-found = refl
+
+-- 234806 and 23481 on some days, and a word that is no key
+best-found :
+    bestFound three (key (2 ∷ 3 ∷ 4 ∷ 8 ∷ 0 ∷ 6 ∷ [])) 99
+    ∷ bestFound three (key (2 ∷ 3 ∷ 4 ∷ 8 ∷ 0 ∷ 6 ∷ [])) 105
+    ∷ bestFound three (key (2 ∷ 3 ∷ 4 ∷ 8 ∷ 1 ∷ [])) 105
+    ∷ bestFound three (key (2 ∷ 3 ∷ 4 ∷ 8 ∷ 0 ∷ [])) 110
+    ∷ bestFound three (k1 + 5) 105
+    ∷ []
+    ≡ answer 0 Closed
+    ∷ answer k1 (Open (rate 0) 1 1)
+    ∷ answer k2 Blocked
+    ∷ answer k2 Blocked
+    ∷ answer k1 (Open (rate 0) 1 1)
+    ∷ []
+unfolding bestFound three bookOf k1 k2 key offerOf
+best-found = refl

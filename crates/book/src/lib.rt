@@ -1,14 +1,12 @@
 // The book (document 01, "The book"): a lent slice of 64-bit words, whatever it holds.
 ghost use mathlib.Core.Path.{_≡_};
-ghost use mathlib.Core.Bool.{true, false};
-ghost use Prim.Native.Nat.{_+_, _-_, _*_, _≤_, _<_};
+ghost use Prim.Native.Nat.{_+_, _-_, _*_, _≤_};
 ghost use lib.ListN.{length, drop, replicate};
 ghost use lib.Seq.{sets};
-ghost use Rattle.dial_code.specs.Key.{key as keyOf, digitsOfKey};
-ghost use Rattle.book.specs.Layout.{headerWords, entryWords, entryAt, entriesFrom, held, entriesOf};
+ghost use Rattle.book.specs.Layout.{headerWords, entryWords, entryAt, entriesFrom, held};
 ghost use Rattle.book.specs.Soundness.{isOfferWord, inRange, begins, follows, soundEntries, allZero, soundHeader, sound};
-ghost use Rattle.book.specs.Status.{statusIn, offerIn, isStanding, matched};
-ghost use Rattle.book.specs.Search.{notAfter};
+ghost use Rattle.book.specs.Status.{isStanding};
+ghost use Rattle.book.specs.Search.{notAfter, foundUpTo, statusFound, offerFound, bestFound};
 ghost use Rattle.book.specs.Answers.{freshRefusal, freshWords, bookRefusal, lookup};
 use dial_code::Keyed;
 use rate::Day;
@@ -242,7 +240,7 @@ fn is_not_after(e: Entry, key: u64, day: u64) -> bool
 
 // The offer word of a code on a day, found by halving.
 pub fn status_on(words: &[u64], key: u64, day: u64) -> u64
-    ensures { λ r. ⌜ (sound (now (words .entry)) ≡ true → r ≡ statusIn (entriesOf (now (words .entry))) key day) ⌝ }
+    ensures { λ r. ⌜ r ≡ statusFound (now (words .entry)) key day ⌝ }
 {
     if words.len() < HEADER_WORDS {
         return 0;
@@ -265,9 +263,7 @@ pub fn status_on(words: &[u64], key: u64, day: u64) -> u64
 // How many of the first entries stand no later than a code and a day, found by halving.
 fn entries_up_to(words: &[u64], count: usize, key: u64, day: u64) -> usize
     requires { ⌜ headerWords + count * entryWords ≤ length (now words) ⌝ }
-    ensures { λ r. ⌜ r ≤ count ⌝ }
-    ensures { λ r. ⌜ (0 < r → notAfter (entryAt (now (words .entry)) (headerWords + (r - 1) * entryWords)) key day ≡ true) ⌝ }
-    ensures { λ r. ⌜ (r < count → notAfter (entryAt (now (words .entry)) (headerWords + r * entryWords)) key day ≡ false) ⌝ }
+    ensures { λ r. ⌜ r ≡ foundUpTo (now (words .entry)) count key day ⌝ }
 {
     let mut lo: usize = 0;
     let mut hi = count;
@@ -285,7 +281,7 @@ fn entries_up_to(words: &[u64], count: usize, key: u64, day: u64) -> usize
 
 // The status of a code on a day, as an offer.
 pub fn offer_on(words: &[u64], key: u64, day: u64) -> Offer
-    ensures { λ r. ⌜ (sound (now (words .entry)) ≡ true → r ≡ offerIn (entriesOf (now (words .entry))) key day) ⌝ }
+    ensures { λ r. ⌜ r ≡ offerFound (now (words .entry)) key day ⌝ }
 {
     match rate::word_offer(status_on(words, key, day)) {
         Stored::Holds(o) => o,
@@ -310,9 +306,7 @@ fn is_standing(offer: Offer) -> bool
 // The offer of the longest beginning of a code or number, given by its key, whose status on a day is open or blocked. A key is
 // truncated place by place, and searched for only where that changed it.
 pub fn best_offer(words: &[u64], key: u64, day: u64) -> Answer
-    ensures { λ r. ⌜ (sound (now (words .entry)) ≡ true
-        → keyOf (digitsOfKey key) ≡ key
-        → r ≡ matched (λ k. offerIn (entriesOf (now (words .entry))) k day) (digitsOfKey key)) ⌝ }
+    ensures { λ r. ⌜ r ≡ bestFound (now (words .entry)) key day ⌝ }
 {
     let whole = offer_on(words, key, day);
     if is_standing(whole) {

@@ -7,7 +7,7 @@ use mathlib.Core.Logic.{_≢_, _↔_}
 use Prim.Native.Nat.{ℕ, _≤_, _<_}
 use lib.ListN.{length}
 use Rattle.refusal.specs.Refusal.{bookFull}
-use Rattle.dial_code.specs.Digits.{digitOf}
+use Rattle.dial_code.specs.Digits.{digitOf, isDialled}
 use Rattle.dial_code.specs.Key.{key}
 use Rattle.dial_code.specs.CountryCode.{country}
 use Rattle.dial_code.specs.declared.Country.the-variants.{None}
@@ -17,7 +17,7 @@ use Rattle.notice.specs.NoticeRule.{Notice, notice, readNotice, full}
 use Rattle.notice.specs.declared.Line.{Line}
 use Rattle.book.specs.Layout.{periodOf, receivedOf, held, entriesOf}
 use Rattle.book.specs.Soundness.{sound}
-use Rattle.book.specs.Answers.{freshRefusal, freshBook, isDialled, lookup}
+use Rattle.book.specs.Answers.{freshRefusal, freshBook, lookup}
 use Rattle.book.specs.declared.Lookup.the-variants.{Found}
 use Rattle.history.specs.Effect.{namedBy}
 use Rattle.history.specs.ChangeDays.{changeDays}

@@ -2,7 +2,7 @@
 -- a string a number. Assumes nothing.
 use mathlib.Core.Path.{_≡_, refl, ap, ap₂, sym, _∙_}
 use mathlib.Core.Bool.{true, false, _&&_, not}
-use mathlib.Core.List.{List, [], _∷_, _++_}
+use mathlib.Core.List.{List, [], _∷_, _++_, map}
 use Prim.Native.Nat.{ℕ, zero, suc, _+_, _*_, _/_, _%_, _^_, _≤_, _<_}
 use native.Mathlib.Nat.{pow-succ', div-one, div-div-eq-div-mul, mod-eq-of-lt, mod-lt, one-le-pow, mod-one}
 use native.Mathlib.Omega.{arith}
@@ -10,7 +10,7 @@ use borrow.Author.Tests.{le-leb, leb-true, ne-eqb}
 use lib.Arith.{digits-div, digits-mod, digits-lt, mod-mul}
 use lib.Dec.{leb, lit<}
 use lib.ListN.{length}
-use Rattle.dial_code.specs.Digits.{digits, value, every, isDigit, isNumber, startsWithZero}
+use Rattle.dial_code.specs.Digits.{digits, value, every, isDigit, isNumber, startsWithZero, isAscii, digitOf, isDialled}
 use Rattle.dial_code.proofs.Tests.{both, and-left-true, and-right-false}
 
 -- a string of digits starts with one, and goes on with a string of digits
@@ -116,3 +116,10 @@ unfolding isNumber
 number-facts ds e =
     let p = both (leb (length ds) 15) (every isDigit ds && not (startsWithZero ds)) (both (leb 1 (length ds)) _ e .1) in
     (leb-true _ _ (p .0), both (every isDigit ds) _ (p .1) .0)
+
+pub dialled-digits :
+    (s : List ℕ)
+    → isDialled s ≡ true
+    → (length (map digitOf s) ≤ 15) × (every isDigit (map digitOf s) ≡ true)
+unfolding isDialled
+dialled-digits s h = number-facts (map digitOf s) (both (every isAscii s) (isNumber (map digitOf s)) h .1)

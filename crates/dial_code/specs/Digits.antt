@@ -2,7 +2,7 @@
 -- "Notice layout"), and a number as ASCII digits, one a byte ("Who can cause a refusal").
 use mathlib.Core.Path.{_≡_, refl}
 use mathlib.Core.Bool.{Bool, true, false, _&&_, not}
-use mathlib.Core.List.{List, [], _∷_}
+use mathlib.Core.List.{List, [], _∷_, map}
 use Prim.Native.Nat.{ℕ, zero, suc, _+_, _-_, _*_, _/_, _%_, _^_}
 use lib.ListN.{length}
 use lib.Dec.{eqb, leb, ltb}
@@ -47,6 +47,11 @@ isAscii b = leb 48 b && leb b 57
 
 abbrev pub digitOf : ℕ → ℕ
 digitOf b = b - 48
+
+-- A number given as ASCII digits.
+unfoldable pub isDialled : List ℕ → Bool
+unfolding isNumber
+isDialled s = every isAscii s && isNumber (map digitOf s)
 
 -- leading zeros count as digits
 written :

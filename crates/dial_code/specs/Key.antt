@@ -5,7 +5,7 @@ use mathlib.Core.List.{List, [], _∷_, map}
 use Prim.Native.Nat.{ℕ, zero, suc, _+_, _-_, _*_, _/_, _%_, _^_}
 use lib.Dec.{eqb, ltb}
 use Rattle.refusal.specs.Refusal.{outOfRange, notANumber}
-use Rattle.dial_code.specs.Digits.{mostDigits, digits, isWritten, isNumber, every, isAscii, digitOf}
+use Rattle.dial_code.specs.Digits.{mostDigits, digits, isWritten, isNumber, digitOf, isDialled}
 use Rattle.dial_code.specs.declared.Keyed.{Keyed}
 use Rattle.dial_code.specs.declared.Keyed.the-variants.{Key, Refused}
 
@@ -45,8 +45,8 @@ codeKey count v = cond (isWritten count v) (Key (key (digits count v))) (Refused
 
 -- The key of a number given as ASCII digits, or that it is none.
 unfoldable pub numberKey : List ℕ → Keyed
-unfolding key isNumber
-numberKey s = cond (every isAscii s && isNumber (map digitOf s)) (Key (key (map digitOf s))) (Refused notANumber)
+unfolding key isDialled
+numberKey s = cond (isDialled s) (Key (key (map digitOf s))) (Refused notANumber)
 
 -- The key of a number sent as a count of digits and a value, or that it is none.
 unfoldable pub sentNumberKey : ℕ → ℕ → Keyed

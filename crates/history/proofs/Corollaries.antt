@@ -10,18 +10,19 @@ use borrow.Author.Tests.{eq-eqb, eqb-true, ne-eqb}
 use lib.Dec.{eqb}
 use lib.ListN.{length}
 use Rattle.refusal.specs.Refusal.{bookFull}
-use Rattle.dial_code.specs.Digits.{digitOf}
+use Rattle.dial_code.specs.Digits.{digitOf, isDialled}
 use Rattle.dial_code.specs.Key.{key}
 use Rattle.dial_code.specs.CountryCode.{country}
 use Rattle.dial_code.specs.declared.Country.the-variants.{None}
 use Rattle.dial_code.proofs.CountedKeys.{country-of-key}
+use Rattle.dial_code.proofs.DigitLaws.{dialled-digits}
 use Rattle.rate.specs.declared.Day.{Day}
 use Rattle.notice.specs.NoticeRule.{Notice, notice, readNotice, full}
 use Rattle.notice.specs.declared.Line.{Line}
 use Rattle.notice.proofs.NoticeLaws.{notice-valid}
 use Rattle.book.specs.Layout.{countOf, periodOf, receivedOf, held, entriesOf}
 use Rattle.book.specs.Soundness.{sound}
-use Rattle.book.specs.Answers.{freshRefusal, freshBook, isDialled, lookup}
+use Rattle.book.specs.Answers.{freshRefusal, freshBook, lookup}
 use Rattle.book.proofs.Rows.{length-entries}
 use Rattle.book.proofs.BookWords.{entries-back}
 use Rattle.history.specs.Effect.{Known, namedBy, afterNotice}
@@ -32,7 +33,7 @@ use Rattle.history.specs.Claim.{Apply, acceptedBy, current, bookLeft}
 use Rattle.history.proofs.Keeping.{good}
 use Rattle.history.proofs.Theorem.{Linked, accepted-facts, accepted-words, same-answer, same-entries}
 use Rattle.history.proofs.Theorem.{left-linked, fresh-linked}
-use Rattle.history.proofs.Outside.{dialled-digits, usable-old, new-sound, outside-new, in-none}
+use Rattle.history.proofs.Outside.{usable-old, new-sound, outside-new, in-none}
 use Rattle.history.proofs.Space.{machine-full, machine-taken}
 
 -- 1. Refused notices.

@@ -10,13 +10,13 @@ use borrow.Author.Tests.{le-leb, leb-true, eq-eqb, ne-eqb, eqb-true}
 use lib.Dec.{eqb, leb, ltb}
 use lib.ListN.{length, take, length-take}
 use lib.Seq.{take-take}
-use Rattle.dial_code.specs.Digits.{every, isDigit, isAscii, digitOf, isNumber, value}
+use Rattle.dial_code.specs.Digits.{every, isDigit, digitOf, isDialled, value}
 use Rattle.dial_code.specs.Key.{key}
 use Rattle.dial_code.specs.CountryCode.{oneDigit, countryDigits, country, countryOfKey}
 use Rattle.dial_code.specs.declared.Country.{Country}
 use Rattle.dial_code.specs.declared.Country.the-variants.{Code, None}
 use Rattle.dial_code.proofs.Tests.{both, and-left-true}
-use Rattle.dial_code.proofs.DigitLaws.{number-facts}
+use Rattle.dial_code.proofs.DigitLaws.{dialled-digits}
 use Rattle.dial_code.proofs.CountedKeys.{country-of-key}
 use Rattle.dial_code.proofs.CodeLaws.{without-country}
 use Rattle.rate.specs.Time.{isDay}
@@ -30,7 +30,7 @@ use Rattle.notice.proofs.NoticeLaws.{Valid}
 use Rattle.book.specs.Layout.{headerWords, periodOf, held}
 use Rattle.book.specs.Soundness.{sound}
 use Rattle.book.specs.Status.{longest, matched}
-use Rattle.book.specs.Answers.{bookRefusal, isDialled, lookup}
+use Rattle.book.specs.Answers.{bookRefusal, lookup}
 use Rattle.book.specs.declared.Lookup.the-variants.{Found}
 use Rattle.book.proofs.Headers.{sound-book}
 use Rattle.book.proofs.BookWords.{entries-back, sound-back}
@@ -178,11 +178,6 @@ matched-within : (f g : ℕ → Offer) (ds : List ℕ)
     → ((m : ℕ) → f (key (take m ds)) ≡ g (key (take m ds))) → matched f ds ≡ matched g ds
 unfolding matched
 matched-within f g ds e = longest-within f g ds (length ds) e
-
-pub dialled-digits : (number : List ℕ) → isDialled number ≡ true
-    → (length (map digitOf number) ≤ 15) × (every isDigit (map digitOf number) ≡ true)
-unfolding isDialled
-dialled-digits number h = number-facts (map digitOf number) (both (every isAscii number) (isNumber (map digitOf number)) h .1)
 
 -- a book that an apply does not refuse is sound
 pub usable-old : (ws bytes : List ℕ) (len : ℕ) → applyRefusal ws bytes len ≡ 0 → sound ws ≡ true

@@ -9,7 +9,7 @@ use borrow.Author.Tests.{ltb-false, leb-true, eq-eqb, eqb-true}
 use lib.Dec.{eqb, leb, ltb}
 use lib.ListN.{length}
 use Rattle.refusal.specs.Refusal.{receivedEarlier, bookFull}
-use Rattle.dial_code.specs.Digits.{digitOf}
+use Rattle.dial_code.specs.Digits.{digitOf, isDialled}
 use Rattle.rate.specs.OfferWord.{offerOf}
 use Rattle.rate.specs.declared.Offer.the-variants.{Closed}
 use Rattle.rate.specs.Time.{isDay}
@@ -18,7 +18,7 @@ use Rattle.notice.specs.NoticeRule.{Notice, Reading, notice, unread, readNotice
 use Rattle.book.specs.Layout.{headerWords, held, entriesOf, bookOf, periodOf, receivedOf, latestOf}
 use Rattle.book.specs.Soundness.{soundEntries, sound}
 use Rattle.book.specs.Status.{statusIn, offerIn, matched}
-use Rattle.book.specs.Answers.{freshRefusal, freshBook, bookRefusal, isDialled, lookup}
+use Rattle.book.specs.Answers.{freshRefusal, freshBook, bookRefusal, lookup}
 use Rattle.book.specs.declared.Entry.{Entry}
 use Rattle.book.specs.declared.Lookup.{Lookup}
 use Rattle.book.specs.declared.Lookup.the-variants.{Found}

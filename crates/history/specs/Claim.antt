@@ -5,12 +5,12 @@ use mathlib.Core.List.{List, [], _∷_, map}
 use Prim.Native.Nat.{ℕ}
 use lib.Dec.{eqb}
 use lib.ListN.{length}
-use Rattle.dial_code.specs.Digits.{digitOf}
+use Rattle.dial_code.specs.Digits.{digitOf, isDialled}
 use Rattle.rate.specs.Time.{isDay}
 use Rattle.rate.specs.declared.Day.{Day}
 use Rattle.notice.specs.NoticeRule.{Notice, Reading, notice, unread, readNotice}
 use Rattle.book.specs.Layout.{entriesOf}
-use Rattle.book.specs.Answers.{isDialled, lookup}
+use Rattle.book.specs.Answers.{lookup}
 use Rattle.book.specs.declared.Lookup.the-variants.{Found}
 use Rattle.history.specs.ChangeDays.{changeDays}
 use Rattle.history.specs.Machine.{known, words, answers, answerOf}

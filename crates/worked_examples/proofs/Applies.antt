@@ -8,7 +8,7 @@ use borrow.Author.Tests.{le-ltb, le-leb, eq-eqb}
 use lib.ListN.{length}
 use Rattle.refusal.specs.Refusal.{bookFull}
 use Rattle.varint.specs.Reading.{readNumber}
-use Rattle.dial_code.specs.Digits.{digitOf}
+use Rattle.dial_code.specs.Digits.{digitOf, isDialled}
 use Rattle.dial_code.specs.Key.{key, digitsOfKey}
 use Rattle.dial_code.specs.CountryCode.{country, countryOfKey}
 use Rattle.rate.specs.Price.{rate}
@@ -19,7 +19,7 @@ use Rattle.rate.specs.declared.Charged.the-variants as charged
 use Rattle.notice.specs.NoticeRule.{Notice, notice, readNotice, readHeader}
 use Rattle.book.specs.Layout.{held}
 use Rattle.book.specs.Status.{answer, matched}
-use Rattle.book.specs.Answers.{freshRefusal, freshBook, isDialled, lookup}
+use Rattle.book.specs.Answers.{freshRefusal, freshBook, lookup}
 use Rattle.book.specs.declared.Lookup.the-variants.{Found}
 use Rattle.book.proofs.Headers.{held-fits, fits-held}
 use Rattle.history.specs.Effect.{someEarlier, effective, lineFor, namedBy, closes, closing, changeOf, latestEffective}

@@ -1,28 +1,27 @@
--- entries_up_to meets its contract. The loop's invariant: the last entry before `lo` is not after the code and day, and the one
--- at `hi` is. The measure is how far the two are apart. Assumes nothing.
-use mathlib.Core.Path.{_≡_}
-use mathlib.Core.Bool.{true, false}
-use Prim.Native.Nat.{_+_, _-_, _*_, _≤_, _<_}
+-- entries_up_to meets its contract. The loop's invariant: halving goes on from `lo` to `hi`, with turns enough. The measure is
+-- how far the two are apart. Assumes nothing.
+use mathlib.Core.Path.{_≡_, sym, _∙_}
+use Prim.Native.Nat.{ℕ, _-_, _≤_}
 use native.Mathlib.Omega.{arith}
 use borrow.Author.Needs.{needs}
-use Rattle.book.specs.Layout.{headerWords, entryWords, entryAt}
-use Rattle.book.specs.Search.{notAfter}
-use Rattle.book.proofs.Halving.{middle, passed, meets}
+use Rattle.book.specs.Search.{halved, upTo, foundUpTo}
+use Rattle.book.proofs.Halving.{halving, goes-behind, goes-before, stays, tested}
 use Rattle.book.proofs.entries_up_to.Statement.{statement}
 use Rattle.book.proofs.entries_up_to.Tie as tie
 
 abbrev Inv-loop : tie.InvT-loop
 Inv-loop words count key day lo₀ hi₀ lo hi =
-    (lo ≤ hi)
+    (n : ℕ)
+    × (hi - lo ≤ n)
+    × (lo ≤ hi)
     × (hi ≤ count)
-    × (0 < lo → notAfter (entryAt words (headerWords + (lo - 1) * entryWords)) key day ≡ true)
-    × (hi < count → notAfter (entryAt words (headerWords + hi * entryWords)) key day ≡ false)
+    × (foundUpTo words count key day ≡ halved (upTo words key day) n lo hi)
 
 abbrev μ-loop : tie.MeasureT-loop
 μ-loop words count key day lo₀ hi₀ lo hi = hi - lo
 
 loop-holds : tie.Need-loop-holds Inv-loop μ-loop
-loop-holds c = (omega arith, omega arith, λ h. absurd (omega arith), λ h. absurd (omega arith))
+loop-holds c = (c .before .args .count, omega arith, omega arith, omega arith, halving _ _ _ _)
 
 sub-mid : tie.Need-sub-mid Inv-loop μ-loop
 sub-mid c = search needs
@@ -51,8 +50,8 @@ loop-less c = search needs
 loop-again : tie.Need-loop-again Inv-loop μ-loop
 loop-again c =
     let l = c .before .before .before .before .loop in
-    let p = middle _ _ _ _ (c .before .before .entry-at .ensures) (c .before .is-not-after .ensures) (c .if1 .taken) in
-    (omega arith, omega arith, λ h. passed _ _ _ _ p, l .inv .3)
+    let p = tested _ _ _ _ (c .before .before .entry-at .ensures) (c .before .is-not-after .ensures) (c .if1 .taken) in
+    (l .inv .0 - 1, omega arith, omega arith, omega arith, l .inv .4 ∙ goes-behind _ _ _ _ (omega arith) (l .inv .1) p)
 
 loop-less-2 : tie.Need-loop-less-2 Inv-loop μ-loop
 loop-less-2 c = search needs
@@ -60,13 +59,13 @@ loop-less-2 c = search needs
 loop-again-2 : tie.Need-loop-again-2 Inv-loop μ-loop
 loop-again-2 c =
     let l = c .before .before .before .before .loop in
-    let p = middle _ _ _ _ (c .before .before .entry-at .ensures) (c .before .is-not-after .ensures) (c .if1 .left) in
-    (omega arith, omega arith, l .inv .2, λ h. p)
+    let p = tested _ _ _ _ (c .before .before .entry-at .ensures) (c .before .is-not-after .ensures) (c .if1 .left) in
+    (l .inv .0 - 1, omega arith, omega arith, omega arith, l .inv .4 ∙ goes-before _ _ _ _ (omega arith) (l .inv .1) p)
 
 returns : tie.Need-returns Inv-loop μ-loop
 returns c =
     let l = c .before .loop in
-    (omega arith, (l .inv .2, meets _ _ _ _ _ _ (l .inv .0) (c .loop-test .left) (l .inv .3)))
+    sym (l .inv .4 ∙ stays _ _ _ _ (c .loop-test .left))
 
 pub entries-up-to-spec : {M : Type 1} → statement M
 entries-up-to-spec =

@@ -5,7 +5,7 @@ use borrow.Author.Tests.{not-true, not-false}
 use Rattle.book.specs.Status.{matched}
 use Rattle.book.specs.Answers.{bookRefusal}
 use Rattle.book.specs.declared.Lookup.the-variants.{Found, Refused}
-use Rattle.book.proofs.Matching.{statusOn}
+use Rattle.book.proofs.Matching.{statusOn, best-found}
 use Rattle.book.proofs.Lookups.{Dialled, dialled, not-dialled, usable-sound, no-book, no-number, no-day, answered}
 use Rattle.book.proofs.look_up.Statement.{statement}
 use Rattle.book.proofs.look_up.Tie as tie
@@ -64,7 +64,7 @@ returns-4 c =
     let a = p .before .before .before .before .before .before .before .args in
     let st = statusOn (a .words .now) (a .day .0) in
     let t = sym (c .before .before .in-range .ensures) ∙ not-false _ (c .before .if2 .left) in
-    ap Found (c .best-offer .ensures (usable-sound _ b) (d .keyed) ∙ ap (matched st) (d .digits))
+    ap Found (c .best-offer .ensures ∙ best-found _ _ _ (usable-sound _ b) (d .keyed) ∙ ap (matched st) (d .digits))
     ∙ sym (answered _ _ _ b (d .number) t)
 
 pub look-up-spec : {M : Type 1} → statement M

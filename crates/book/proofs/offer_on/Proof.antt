@@ -2,7 +2,7 @@
 use mathlib.Core.Path.{ap, sym, _∙_}
 use borrow.Author.Needs.{needs}
 use Rattle.book.specs.Status.{heldOffer}
-use Rattle.book.proofs.Matching.{as-offer}
+use Rattle.book.proofs.Halving.{as-found}
 use Rattle.book.proofs.offer_on.Statement.{statement}
 use Rattle.book.proofs.offer_on.Tie as tie
 
@@ -19,14 +19,14 @@ enum-told : tie.Need-enum-told
 enum-told c = search needs
 
 returns : tie.Need-returns
-returns c s =
+returns c =
     let p = c .before .before .before in
-    sym (as-offer _ _ _ (p .before .status-on .ensures s) (p .word-offer .ensures) ∙ ap heldOffer (c .before .o .given .1))
+    sym (as-found _ _ _ (p .before .status-on .ensures) (p .word-offer .ensures) ∙ ap heldOffer (c .before .o .given .1))
 
 returns-2 : tie.Need-returns-2
-returns-2 c s =
+returns-2 c =
     let p = c .before .before in
-    sym (as-offer _ _ _ (p .before .status-on .ensures s) (p .word-offer .ensures) ∙ ap heldOffer (c .enum-told .given .1))
+    sym (as-found _ _ _ (p .before .status-on .ensures) (p .word-offer .ensures) ∙ ap heldOffer (c .enum-told .given .1))
 
 pub offer-on-spec : {M : Type 1} → statement M
 offer-on-spec =

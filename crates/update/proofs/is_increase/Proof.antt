@@ -1,5 +1,7 @@
 -- `update::is_increase` meets its contract: an open offer is held against the best offer before. Assumes nothing.
+use mathlib.Core.Path.{_∙_}
 use borrow.Author.Needs.{needs}
+use Rattle.book.proofs.Matching.{best-found}
 use Rattle.update.proofs.Planning.{above-best}
 use Rattle.update.proofs.is_increase.Statement.{statement}
 use Rattle.update.proofs.is_increase.Tie as tie
@@ -35,19 +37,19 @@ returns-3 : tie.Need-returns-3
 returns-3 c =
     let d = c .before .before in
     let p = d .before .before .before .before .before .pre in
-    above-best _ _ _ (d .before .before .offer .given .1) (d .best-offer .ensures (p .0) (p .1)) (c .enum-told3 .given .1)
+    above-best _ _ _ (d .before .before .offer .given .1) (d .best-offer .ensures ∙ best-found _ _ _ (p .0) (p .1)) (c .enum-told3 .given .1)
 
 returns-4 : tie.Need-returns-4
 returns-4 c =
     let d = c .before .before in
     let p = d .before .before .before .before .before .pre in
-    above-best _ _ _ (d .before .before .offer .given .1) (d .best-offer .ensures (p .0) (p .1)) (c .enum-told4 .given .1)
+    above-best _ _ _ (d .before .before .offer .given .1) (d .best-offer .ensures ∙ best-found _ _ _ (p .0) (p .1)) (c .enum-told4 .given .1)
 
 returns-5 : tie.Need-returns-5
 returns-5 c =
     let d = c .before .before .before .before .before in
     let p = d .before .before .before .before .before .pre in
-    above-best _ _ _ (d .before .before .offer .given .1) (d .best-offer .ensures (p .0) (p .1))
+    above-best _ _ _ (d .before .before .offer .given .1) (d .best-offer .ensures ∙ best-found _ _ _ (p .0) (p .1))
     (c .before .before .before .before2 .given .1)
 
 pub is-increase-spec : {M : Type 1} → statement M
