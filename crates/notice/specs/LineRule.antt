@@ -46,6 +46,34 @@ codeField named before count v at =
     (Refused codeNotAllowed))
     (Refused outOfRange)
 
+-- 44 after 1 and in country 44; a value too large for its count; 01, 0 and 23, which are no codes; 44 after itself and after 45;
+-- 44 in a replacement of 7, and after 45 there, where the order comes first
+code-fields :
+    codeField 0 (key (1 ∷ [])) 2 44 5
+    ∷ codeField 44 0 2 44 5
+    ∷ codeField 0 0 1 10 5
+    ∷ codeField 0 0 2 1 5
+    ∷ codeField 0 0 1 0 5
+    ∷ codeField 0 0 2 23 5
+    ∷ codeField 0 (key (4 ∷ 4 ∷ [])) 2 44 5
+    ∷ codeField 0 (key (4 ∷ 5 ∷ [])) 2 44 5
+    ∷ codeField 7 0 2 44 5
+    ∷ codeField 7 (key (4 ∷ 5 ∷ [])) 2 44 5
+    ∷ []
+    ≡ Value (key (4 ∷ 4 ∷ [])) 5
+    ∷ Value (key (4 ∷ 4 ∷ [])) 5
+    ∷ Refused 4
+    ∷ Refused 5
+    ∷ Refused 5
+    ∷ Refused 5
+    ∷ Refused 6
+    ∷ Refused 6
+    ∷ Refused 7
+    ∷ Refused 6
+    ∷ []
+unfolding codeField key digits isCode country
+code-fields = refl
+
 -- A line's code: its digit count, 1 to 15, and its value. Gives its key.
 unfoldable pub readCode : ℕ → ℕ → List ℕ → ℕ → Number
 readCode named before s at =
@@ -92,6 +120,32 @@ listedField named before last listed at =
     cond (leb listed (lastDay + 1))
     (cond (eqb named 0 || (eqb before 0 || eqb listed last)) (Value listed at) (Refused daysDiffer))
     (Refused outOfRange)
+
+-- the last day and one past it; in a replacement the same field, none after day 0 and day 0 after none, another day, a field out of
+-- range, and the first line; another day where the notice is no replacement
+listed-fields :
+    listedField 0 0 0 65001 9
+    ∷ listedField 0 0 0 65002 9
+    ∷ listedField 44 1 7 7 9
+    ∷ listedField 44 1 1 0 9
+    ∷ listedField 44 1 0 1 9
+    ∷ listedField 44 1 8 7 9
+    ∷ listedField 44 1 8 65002 9
+    ∷ listedField 44 0 0 7 9
+    ∷ listedField 0 1 8 7 9
+    ∷ []
+    ≡ Value 65001 9
+    ∷ Refused 4
+    ∷ Value 7 9
+    ∷ Refused 8
+    ∷ Refused 8
+    ∷ Refused 8
+    ∷ Refused 4
+    ∷ Value 7 9
+    ∷ Value 7 9
+    ∷ []
+unfolding listedField
+listed-fields = refl
 
 unfoldable pub readListed : ℕ → ℕ → ℕ → List ℕ → ℕ → Number
 readListed named before last s at = andThen (readNumber s at) (listedField named before last) Refused
