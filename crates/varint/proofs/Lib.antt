@@ -6,3 +6,4 @@ pub mod Refusals
 pub mod Outcome
 pub mod Laws
 pub mod Several
+pub mod Advance
