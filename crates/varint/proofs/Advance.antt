@@ -72,7 +72,7 @@ module _ {M : Type 1} (𝓤 : URA M) (H : Heap 𝓤) (A : Atoms 𝓤) (W : Given
   lies-in v =
       qed W (‵ (fat fullShare (T′.mir erased) b 0 v) ∷ ‵ (R κ .own h (v ∷ [])) ∷ []) ∵
       use1 W (‵ (cellAt fullShare (R κ .mir) (v ∷ []) b 0)) (W .laws .at-raw fullShare (T′.mir erased) b 0 v) $ fjoin ! $
-          fpack ! (List Val) (λ us. fsep (cellAt fullShare (R κ .mir) us b 0) (R κ .own h us)) (v ∷ []) $ done !
+      fpack ! (List Val) (λ us. fsep (cellAt fullShare (R κ .mir) us b 0) (R κ .own h us)) (v ∷ []) $ done !
 
   -- and the local again
   pub lies-out : ent 𝓤 (sem 𝓤 H A (mem (R κ) .lies h b 0)) (sem 𝓤 H A (fat fullShare (T′.mir erased) b 0 (T′.lowered h)))
@@ -80,9 +80,9 @@ module _ {M : Type 1} (𝓤 : URA M) (H : Heap 𝓤) (A : Atoms 𝓤) (W : Given
   lies-out =
       qed W (‵ (mem (R κ) .lies h b 0) ∷ []) ∵ fpick ! (λ vs. fsplit ! $
       spelt ! (R κ) (Is (R κ)) (shows 𝓤 H A (R κ)) (LL.vals (T.the-type (α κ)) (T′.the-laws (α κ)))
-          (LL.tells (T.the-type (α κ)) (T′.the-laws (α κ))) fullShare h vs b 0 $
+      (LL.tells (T.the-type (α κ)) (T′.the-laws (α κ))) fullShare h vs b 0 $
       use1 W (‵ (fat fullShare (T′.mir erased) b 0 (T′.lowered h)))
-          (W .laws .raw-at fullShare (T′.mir erased) b 0 (T′.lowered h)) $ keep ! (0 ∷ []) $ done !)
+      (W .laws .raw-at fullShare (T′.mir erased) b 0 (T′.lowered h)) $ keep ! (0 ∷ []) $ done !)
 
 -- the call of `next` for the lifetime ν below κ, of the reader h that lies at b, under the name δ
 module _ {M : Type 1} (𝓤 : URA M) (H : Heap 𝓤) (A : Atoms 𝓤) (at-mem : Memory → SProp 𝓤) (run : Routine → Fun 𝓤) (κ : Lft)
@@ -91,8 +91,16 @@ module _ {M : Type 1} (𝓤 : URA M) (H : Heap 𝓤) (A : Atoms 𝓤) (at-mem : 
   lent δ = record { ptr = (b, 0); name = δ; now = h }
 
   abbrev pub to : ℕ → GName → Next 𝓤 H A at-mem run .Ghost
-  to ν δ = (((ν ∷ κ, (κ, tt)), (PosShare·left q, (PosShare·right q, tt)), (meet-⊑-right (ν ∷ []) κ, tt), (lent δ, tt),
-      (vptr b 0 ∷ [], tt)), tt)
+  to ν δ = (
+    (
+      (ν ∷ κ, (κ, tt)),
+      (PosShare·left q, (PosShare·right q, tt)),
+      (meet-⊑-right (ν ∷ []) κ, tt),
+      (lent δ, tt),
+      (vptr b 0 ∷ [], tt),
+    ),
+    tt,
+  )
 
   -- what the caller keeps during the call
   abbrev pub kept : ℕ → GName → SProp 𝓤
@@ -105,7 +113,7 @@ module _ {M : Type 1} (𝓤 : URA M) (H : Heap 𝓤) (A : Atoms 𝓤) (at-mem : 
     goes ν δ = qed W (‵ (flft (ν ∷ κ) (PosShare·left q)) ∷ ‵ (flft κ (PosShare·right q)) ∷ ‵
         (MutRef (named 0) (ν ∷ κ) (R κ) .own (lent δ) (vptr b 0 ∷ [])) ∷ []) ∵
         nothing ! $ move ! (2 ∷ 0 ∷ []) $ join ! $ move ! (1 ∷ 0 ∷ []) $ join ! $ nothing ! $ move ! (2 ∷ 0 ∷ []) $ fjoin ! $
-            move ! (1 ∷ 0 ∷ []) $ join ! $ frame ! $ done !
+        move ! (1 ∷ 0 ∷ []) $ join ! $ frame ! $ done !
 
 module _ {M : Type 1} {𝓤 : URA M} {H : Heap 𝓤} {A : Atoms 𝓤} {K : Type 0} {W : Given 𝓤 H A} {Γ : List (Item 𝓤)} {E : Env 𝓤 H}
     {C : Calls 𝓤 H} {Λ : Loops 𝓤 H} {p : Post 𝓤 H} {xs : List Operand} {d : Place} {rest : Code} where
@@ -113,48 +121,48 @@ module _ {M : Type 1} {𝓤 : URA M} {H : Heap 𝓤} {A : Atoms 𝓤} {K : Type 
       (C #varint·reader·Reader·next) (Next 𝓤 H A at-mem run)
       → (κ : Lft) (q : Share) (h : Reader) (b : ℕ)
       → ((ν : ℕ) (δ : GName) → Opds K W (raw (Next 𝓤 H A at-mem run .pre (to 𝓤 H A at-mem run κ q h b ν δ)) ∷ raw
-          (kept 𝓤 H A at-mem run κ q h b ν δ) ∷ Γ) E xs (vptr b 0 ∷ []))
+      (kept 𝓤 H A at-mem run κ q h b ν δ) ∷ Γ) E xs (vptr b 0 ∷ []))
       → ((u : Val) → Holds (hasTy N′.mir u) × WT u → Seq K W (‵ (mem (R κ) .lies (movedOn h) b 0) ∷ ‵ (flft κ q) ∷ ‵
-          (N.the-row .own (givenBy h) (u ∷ [])) ∷ Γ) (lands C Λ E d u rest p))
+      (N.the-row .own (givenBy h) (u ∷ [])) ∷ Γ) (lands C Λ E d u rest p))
       → Seq K W (‵ (mem (R κ) .lies h b 0) ∷ ‵ (flft κ q) ∷ Γ) (runs C Λ E (seq (call #varint·reader·Reader·next xs d) rest) p)
   gives t fm at-mem run known κ q h b os k =
       lft-new t tt (λ ν.
       use1 W (‵ (flft (ν ∷ []) (PosShare·left q)) ⊛ raw (wand 𝓤 (A .lft (ν ∷ []) (PosShare·left q))
-          (A .lft (ν ∷ []) fullShare))) (W .lfts .lft-carve ν (PosShare·left q)) $ split t $
+      (A .lft (ν ∷ []) fullShare))) (W .lfts .lft-carve ν (PosShare·left q)) $ split t $
       move t (3 ∷ []) $ use1 W (‵ (flft κ (PosShare·left q)) ⊛ ‵ (flft κ (PosShare·right q))) (W .lfts .lft-split κ q) $
-          split t $
+      split t $
       move t (2 ∷ 0 ∷ []) $ use2 W (‵ (flft (ν ∷ κ) (PosShare·left q))) (W .lfts .lft-meet (ν ∷ []) κ (PosShare·left q)) $
       -- [the token of ν ∷ κ; the token of κ; the way back to ν's; the reader]
       move t (3 ∷ []) $ use1 W (later (some (λ (δ : GName). ‵ (MutRef (named 0) (ν ∷ κ) (R κ) .own
-          (lent 𝓤 H A at-mem run κ q h b δ) (vptr b 0 ∷ [])) ⊛ ‵ (flent (ν ∷ κ) (Body (mem (R κ)) b 0 δ)))))
-          (lends-ref 𝓤 H A W (R κ) (named 0) (ν ∷ κ) h b 0) $
+      (lent 𝓤 H A at-mem run κ q h b δ) (vptr b 0 ∷ [])) ⊛ ‵ (flent (ν ∷ κ) (Body (mem (R κ)) b 0 δ)))))
+      (lends-ref 𝓤 H A W (R κ) (named 0) (ν ∷ κ) h b 0) $
       await t tt $ pick t (λ δ. split t $ move t (1 ∷ 4 ∷ []) $ join t $
       -- [what is kept; the reader lent; the token of ν ∷ κ; the token of κ]
       move t (2 ∷ 3 ∷ 1 ∷ []) $ use3 W (raw (Next 𝓤 H A at-mem run .pre (to 𝓤 H A at-mem run κ q h b ν δ)))
-          (goes 𝓤 H A at-mem run κ q h b W ν δ) $
+      (goes 𝓤 H A at-mem run κ q h b W ν δ) $
       move t (1 ∷ []) $ use1 W (raw (kept 𝓤 H A at-mem run κ q h b ν δ)) (id⊢ 𝓤 _) $ move t (1 ∷ 0 ∷ []) $
       calls-at t fm (Next 𝓤 H A at-mem run) known (to 𝓤 H A at-mem run κ q h b ν δ) (os ν δ) (λ u.
       use1 W (later (some (λ (r : Number). ((‵ (flft (ν ∷ κ) (PosShare·left q)) ⊛ ‵ (flft κ (PosShare·right q)) ⊛ ‵ ftrue) ⊛ ‵
-          (N.the-row .own r (u ∷ []))) ⊛ raw (ensured 𝓤 H A next.ended (next.clauses 𝓤 H A at-mem run) (ν ∷ κ, (κ, tt))
-          (lent 𝓤 H A at-mem run κ q h b δ, tt) tt r)))) (id⊢ 𝓤 _) $ await t tt $ pick t (λ r.
+      (N.the-row .own r (u ∷ []))) ⊛ raw (ensured 𝓤 H A next.ended (next.clauses 𝓤 H A at-mem run) (ν ∷ κ, (κ, tt))
+      (lent 𝓤 H A at-mem run κ q h b δ, tt) tt r)))) (id⊢ 𝓤 _) $ await t tt $ pick t (λ r.
       split t $ move t (1 ∷ []) $ use1 W (some (λ (ws : Reader × Unit {0}). ‵
-          (lasts next.ended (ν ∷ κ, (κ, tt)) (lent 𝓤 H A at-mem run κ q h b δ, tt) ws) ⊛ raw
-          (fact 𝓤 ((r ≡ givenBy h) × (ws .0 ≡ movedOn h))))) (id⊢ 𝓤 _) $ pick t (λ ws.
+      (lasts next.ended (ν ∷ κ, (κ, tt)) (lent 𝓤 H A at-mem run κ q h b δ, tt) ws) ⊛ raw
+      (fact 𝓤 ((r ≡ givenBy h) × (ws .0 ≡ movedOn h))))) (id⊢ 𝓤 _) $ pick t (λ ws.
       split t $ move t (1 ∷ []) $ heard t ((r ≡ givenBy h) × (ws .0 ≡ movedOn h)) (λ e. fsplit t $ move t (2 ∷ []) $ split t $
-          split t $
+      split t $
       -- [the token of ν ∷ κ; the token of κ; the number; the reader's last value; …; what was kept]
       use1 W (‵ (flft (ν ∷ []) (PosShare·left q)) ⊛ ‵ (flft κ (PosShare·left q)))
-          (W .lfts .lft-unmeet (ν ∷ []) κ (PosShare·left q)) $ split t $ move t (2 ∷ []) $ split t $
+      (W .lfts .lft-unmeet (ν ∷ []) κ (PosShare·left q)) $ split t $ move t (2 ∷ []) $ split t $
       move t (3 ∷ 0 ∷ []) $ use2 W (‵ (flft κ q)) (W .lfts .lft-join κ q) $
       move t (6 ∷ []) $ use1 W (‵ (flent (ν ∷ κ) (Body (mem (R κ)) b 0 δ)) ⊛ raw
-          (wand 𝓤 (A .lft (ν ∷ []) (PosShare·left q)) (A .lft (ν ∷ []) fullShare))) (id⊢ 𝓤 _) $ split t $
+      (wand 𝓤 (A .lft (ν ∷ []) (PosShare·left q)) (A .lft (ν ∷ []) fullShare))) (id⊢ 𝓤 _) $ split t $
       move t (4 ∷ 1 ∷ []) $ use2 W (‵ (flft (ν ∷ []) fullShare)) (apply∗ 𝓤 (A .lft (ν ∷ []) (PosShare·left q))
-          (A .lft (ν ∷ []) fullShare)) $
+      (A .lft (ν ∷ []) fullShare)) $
       -- ν is ended, and the reader comes back
       lft-end t tt $ use1 W (‵ (fdead (ν ∷ κ))) (W .lfts .dead-incl (ν ∷ κ) (ν ∷ []) (meet-⊑-left (ν ∷ []) κ)) $
       rewrite t 5 (λ (x : Reader). ‵ (fres δ (R κ .coded .code x))) (e .1) refl $ move t (0 ∷ 1 ∷ 5 ∷ []) $
       use3 W (later (‵ (mem (R κ) .lies (movedOn h) b 0))) (ref-back 𝓤 H A W (R κ) (ν ∷ κ) δ (movedOn h) b 0) $ await t tt $
       rewrite t 3 (λ (x : Number). ‵ (N.the-row .own x (u ∷ []))) (e .0) refl $ move t (2 ∷ []) $ drop t $ move t (3 ∷ []) $
-          drop t $
+      drop t $
       move t (2 ∷ []) $ peeks t N.the-row (Is N.the-row) (shows 𝓤 H A N.the-row) (givenBy h) (u ∷ [])
-          (λ is. move t (1 ∷ 2 ∷ []) $ k u (EL.lawful N.the-type N′.the-laws 𝓤 H A W tt .typed (givenBy h) _ is .0))))))))
+      (λ is. move t (1 ∷ 2 ∷ []) $ k u (EL.lawful N.the-type N′.the-laws 𝓤 H A W tt .typed (givenBy h) _ is .0))))))))

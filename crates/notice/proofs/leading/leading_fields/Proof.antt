@@ -117,8 +117,8 @@ module _ {M : Type 1} (𝓤 : URA M) (H : Heap 𝓤) (A : Atoms 𝓤) (W : Given
       qed W ((‵ (flft κ q) ⊛ ‵ ftrue) ∷ ‵ (owns (ShrSlice (named 0) κ u8 ∷ []) (s, tt) (v ∷ [], tt)) ∷ []) ∵
       move ! (1 ∷ []) $ fsplit ! $ use1 W (‵ Own ⊛ ‵ Own) (shr-slice-copy 𝓤 H A W (named 0) κ u8 .twice s (v ∷ [])) $ split ! $
       move ! (0 ∷ 2 ∷ []) $ fjoin ! $ move ! (2 ∷ 0 ∷ []) $ use2 W (raw (New 𝓤 H A mem run .pre to-new))
-          (qed W ((‵ (flft κ q) ⊛ ‵ ftrue) ∷ ‵ (owns (ShrSlice (named 0) κ u8 ∷ []) (s, tt) (v ∷ [], tt)) ∷ []) ∵ join ! $
-          frame ! $ done !) $ frame ! $ done !
+      (qed W ((‵ (flft κ q) ⊛ ‵ ftrue) ∷ ‵ (owns (ShrSlice (named 0) κ u8 ∷ []) (s, tt) (v ∷ [], tt)) ∷ []) ∵ join ! $
+      frame ! $ done !) $ frame ! $ done !
 
   new-said : (r : Reader) → ent 𝓤 (ensured 𝓤 H A new.ended (new.clauses 𝓤 H A mem run) (κ, tt) (s, tt) tt r)
       (fact 𝓤 ((r .src ≡ s) × (r .at ≡ 0)))
@@ -160,7 +160,7 @@ module _ {M : Type 1} (𝓤 : URA M) (H : Heap 𝓤) (A : Atoms 𝓤) (W : Given
   exits r w e =
       qed W (‵ (F.the-row .own r (w ∷ [])) ∷ ‵ (flft κ q) ∷ ‵ Own ∷ []) ∵
       suffices ! _ (ends-at 𝓤 H A leads.ended stayed (leads.clauses 𝓤 H A mem run) W
-          (((κ, tt), (q, tt), tt, (s, tt), (v ∷ [], tt)), tt) w r (tt, tt) (tt, tt)) $ says ! e $
+      (((κ, tt), (q, tt), tt, (s, tt), (v ∷ [], tt)), tt) w r (tt, tt) (tt, tt)) $ says ! e $
       nothing ! $ move ! (2 ∷ 0 ∷ []) $ join ! $ frame ! $ nothing ! $ move ! (2 ∷ 0 ∷ []) $ fjoin ! $ frame ! $ done !
 
   module _ (C : Calls 𝓤 H) (Λ : Loops 𝓤 H) (fm : FmC 𝓤 H (W .laws) C)
@@ -171,87 +171,87 @@ module _ {M : Type 1} (𝓤 : URA M) (H : Heap 𝓤) (A : Atoms 𝓤) (W : Given
         (WpFn 𝓤 H C Λ code.function (v ∷ []) Post)
     walk p =
         qed W (raw (onEntry 𝓤 H A leads.signature (κ, tt) (q, tt) (s, tt) (v ∷ [], tt)) ∷ []) ∵ enter ! C Λ code.function
-            (v ∷ []) _ $
+        (v ∷ []) _ $
         alloc1 ! (λ l₀. alloc1 ! (λ l₁. alloc1 ! (λ l₂. alloc1 ! (λ l₃. alloc1 !
-            (λ l₄. alloc1 ! (λ l₅. alloc1 ! (λ l₆. alloc1 ! (λ l₇. alloc1 !
-            (λ l₈. alloc1 ! (λ l₉. alloc1 ! (λ l₁₀. alloc1 ! (λ l₁₁. alloc1 ! (λ l₁₂. alloc1 ! (λ l₁₃. alloc0 ! $
+        (λ l₄. alloc1 ! (λ l₅. alloc1 ! (λ l₆. alloc1 ! (λ l₇. alloc1 !
+        (λ l₈. alloc1 ! (λ l₉. alloc1 ! (λ l₁₀. alloc1 ! (λ l₁₁. alloc1 ! (λ l₁₂. alloc1 ! (λ l₁₃. alloc0 ! $
         params1 ! $ pass1 ! (init ! 24 refl (shr-slice-lawful 𝓤 H A W (named 0) κ u8 .typed s (v ∷ []) p .0)) $ pass0 ! $
         -- `new`
         move ! (28 ∷ []) $ use1 W (raw (New 𝓤 H A mem run .pre to-new) ⊛ ‵ Own) goes-new $ split ! $
         calls-at ! fm (New 𝓤 H A mem run) known-new to-new (and-then ! (load ! (from ! (stop !)) (look ! 26 refl)) (no-more !))
-            (λ u.
+        (λ u.
         use1 W (later (some (λ (r : Reader). ((‵ (flft κ q) ⊛ ‵ ftrue) ⊛ ‵ (R κ .own r (u ∷ []))) ⊛ raw
-            (ensured 𝓤 H A new.ended (new.clauses 𝓤 H A mem run) (κ, tt) (s, tt) tt r)))) (id⊢ 𝓤 _) $ await ! tt $ pick ! (λ r.
+        (ensured 𝓤 H A new.ended (new.clauses 𝓤 H A mem run) (κ, tt) (s, tt) tt r)))) (id⊢ 𝓤 _) $ await ! tt $ pick ! (λ r.
         split ! $ move ! (1 ∷ []) $ use1 W (raw (fact 𝓤 ((r .src ≡ s) × (r .at ≡ 0)))) (new-said r) $
-            heard ! ((r .src ≡ s) × (r .at ≡ 0)) (λ e.
+        heard ! ((r .src ≡ s) × (r .at ≡ 0)) (λ e.
         split ! $ rewrite ! 1 (λ (x : Reader). ‵ (R κ .own x (u ∷ []))) (λ i. record { src = e .0 i; at = e .1 i }) refl $
         move ! (1 ∷ []) $ peeks ! (R κ) (Is (R κ)) (shows 𝓤 H A (R κ)) h₀ (u ∷ [])
-            (λ is. land ! (from ! (stop !)) (init ! 13 refl (typed u is)) $
+        (λ is. land ! (from ! (stop !)) (init ! 13 refl (typed u is)) $
         assigns ! (of-opd ! (load ! (from ! (stop !)) (look ! 13 refl))) (from ! (stop !)) (init ! 25 refl (typed u is)) $
         move ! (25 ∷ 0 ∷ []) $ use2 W (‵ (in-mem (R κ) .lies h₀ l₂ 0)) (lies-in 𝓤 H A W κ h₀ l₂ u) $ move ! (1 ∷ []) $
-            split ! $ move ! (1 ∷ []) $ drop ! $ move ! (1 ∷ 0 ∷ []) $
+        split ! $ move ! (1 ∷ []) $ drop ! $ move ! (1 ∷ 0 ∷ []) $
         -- the numbers. [the reader; the token; the numbers had, the last in front; what the notice owns; _13; …; _3; …; …; _1;
         -- …; room for _0; …]
         assigns ! (addr ! (from ! (stop !))) (from ! (stop !)) (init ! 11 refl (tt, tt)) $
         gives ! fm mem run known-next κ q h₀ l₂ (λ ν δ. and-then ! (load ! (from ! (stop !)) (look ! 11 refl)) (no-more !))
-            (λ u₁ wt₁. land ! (from ! (stop !)) (init ! 24 refl wt₁) $
+        (λ u₁ wt₁. land ! (from ! (stop !)) (init ! 24 refl wt₁) $
         assigns ! (addr ! (from ! (stop !))) (from ! (stop !)) (init ! 10 refl (tt, tt)) $
         gives ! fm mem run known-next κ q h₁ l₂ (λ ν δ. and-then ! (load ! (from ! (stop !)) (look ! 10 refl)) (no-more !))
-            (λ u₂ wt₂. land ! (from ! (stop !)) (init ! 23 refl wt₂) $
+        (λ u₂ wt₂. land ! (from ! (stop !)) (init ! 23 refl wt₂) $
         assigns ! (addr ! (from ! (stop !))) (from ! (stop !)) (init ! 9 refl (tt, tt)) $
         gives ! fm mem run known-next κ q h₂ l₂ (λ ν δ. and-then ! (load ! (from ! (stop !)) (look ! 9 refl)) (no-more !))
-            (λ u₃ wt₃. land ! (from ! (stop !)) (init ! 22 refl wt₃) $
+        (λ u₃ wt₃. land ! (from ! (stop !)) (init ! 22 refl wt₃) $
         assigns ! (addr ! (from ! (stop !))) (from ! (stop !)) (init ! 8 refl (tt, tt)) $
         gives ! fm mem run known-next κ q h₃ l₂ (λ ν δ. and-then ! (load ! (from ! (stop !)) (look ! 8 refl)) (no-more !))
-            (λ u₄ wt₄. land ! (from ! (stop !)) (init ! 21 refl wt₄) $
+        (λ u₄ wt₄. land ! (from ! (stop !)) (init ! 21 refl wt₄) $
         assigns ! (addr ! (from ! (stop !))) (from ! (stop !)) (init ! 7 refl (tt, tt)) $
         gives ! fm mem run known-next κ q h₄ l₂ (λ ν δ. and-then ! (load ! (from ! (stop !)) (look ! 7 refl)) (no-more !))
-            (λ u₅ wt₅. land ! (from ! (stop !)) (init ! 20 refl wt₅) $
+        (λ u₅ wt₅. land ! (from ! (stop !)) (init ! 20 refl wt₅) $
         -- `header_by`
         nothing ! $ move ! (3 ∷ 0 ∷ []) $ fjoin ! $ move ! (3 ∷ 0 ∷ []) $ fjoin ! $ move ! (3 ∷ 0 ∷ []) $ fjoin ! $
-            move ! (3 ∷ 0 ∷ []) $ fjoin ! $ move ! (3 ∷ 0 ∷ []) $ fjoin ! $
+        move ! (3 ∷ 0 ∷ []) $ fjoin ! $ move ! (3 ∷ 0 ∷ []) $ fjoin ! $
         use1 W (raw (Judge 𝓤 H A mem run .pre (to-judge u₁ u₂ u₃ u₄ u₅))) (goes-judge u₁ u₂ u₃ u₄ u₅) $
         calls-at ! fm (Judge 𝓤 H A mem run) known-judge (to-judge u₁ u₂ u₃ u₄ u₅)
-            (and-then ! (load ! (from ! (stop !)) (look ! 24 refl))
-            (and-then ! (load ! (from ! (stop !)) (look ! 22 refl))
-            (and-then ! (load ! (from ! (stop !)) (look ! 20 refl))
-            (and-then ! (load ! (from ! (stop !)) (look ! 18 refl))
-            (and-then ! (load ! (from ! (stop !)) (look ! 16 refl)) (no-more !)))))) (λ w.
+        (and-then ! (load ! (from ! (stop !)) (look ! 24 refl))
+        (and-then ! (load ! (from ! (stop !)) (look ! 22 refl))
+        (and-then ! (load ! (from ! (stop !)) (look ! 20 refl))
+        (and-then ! (load ! (from ! (stop !)) (look ! 18 refl))
+        (and-then ! (load ! (from ! (stop !)) (look ! 16 refl)) (no-more !)))))) (λ w.
         use1 W (later (some (λ (f : HeaderRead). (‵ ftrue ⊛ ‵ (F.the-row .own f (w ∷ []))) ⊛ raw
-            (ensured 𝓤 H A header-by.ended (header-by.clauses 𝓤 H A mem run) tt (numbers u₁ u₂ u₃ u₄ u₅) tt f)))) (id⊢ 𝓤 _) $
-            await ! tt $ pick ! (λ f.
+        (ensured 𝓤 H A header-by.ended (header-by.clauses 𝓤 H A mem run) tt (numbers u₁ u₂ u₃ u₄ u₅) tt f)))) (id⊢ 𝓤 _) $
+        await ! tt $ pick ! (λ f.
         split ! $ move ! (1 ∷ []) $ use1 W (raw (fact 𝓤 (f ≡ judged u₁ u₂ u₃ u₄ u₅))) (judge-said u₁ u₂ u₃ u₄ u₅ f) $
-            heard ! (f ≡ judged u₁ u₂ u₃ u₄ u₅) (λ e′. split ! $ move ! (1 ∷ []) $
+        heard ! (f ≡ judged u₁ u₂ u₃ u₄ u₅) (λ e′. split ! $ move ! (1 ∷ []) $
         -- [the header; …; the reader; the token; what the notice owns; _13; …; _3; …; …; _1; …; room for _0; …]
         peeks ! F.the-row (Is F.the-row) (shows 𝓤 H A F.the-row) f (w ∷ [])
-            (λ is′. land ! (from ! (stop !)) (init ! 30 refl (EL.lawful F.the-type F′.the-laws 𝓤 H A W tt .typed f _ is′ .0)) $
+        (λ is′. land ! (from ! (stop !)) (init ! 30 refl (EL.lawful F.the-type F′.the-laws 𝓤 H A W tt .typed f _ is′ .0)) $
         returns ! (look ! 30 refl) $ move ! (2 ∷ []) $ use1 W (‵ (fat fullShare (T′.mir erased) l₂ 0
-            (T′.lowered (movedOn h₄)))) (lies-out 𝓤 H A W κ (movedOn h₄) l₂) $
+        (T′.lowered (movedOn h₄)))) (lies-out 𝓤 H A W κ (movedOn h₄) l₂) $
         forget ! 0 refl $ forget ! 5 refl $ forget ! 7 refl $ forget ! 9 refl $ forget ! 11 refl $ forget ! 13 refl $
-            forget ! 15 refl $ forget ! 17 refl $ forget ! 19 refl $ forget ! 21 refl $ forget ! 23 refl $ forget ! 25 refl $
-            forget ! 28 refl $ forget ! 30 refl $
+        forget ! 15 refl $ forget ! 17 refl $ forget ! 19 refl $ forget ! 21 refl $ forget ! 23 refl $ forget ! 25 refl $
+        forget ! 28 refl $ forget ! 30 refl $
         move ! (30 ∷ 31 ∷ []) $ free1 ! $ move ! (28 ∷ 29 ∷ []) $ free1 ! $ move ! (0 ∷ 27 ∷ []) $ free1 ! $
-            move ! (24 ∷ 25 ∷ []) $ free1 ! $ move ! (22 ∷ 23 ∷ []) $ free1 ! $ move ! (20 ∷ 21 ∷ []) $ free1 ! $
-            move ! (18 ∷ 19 ∷ []) $ free1 ! $ move ! (16 ∷ 17 ∷ []) $ free1 ! $ move ! (14 ∷ 15 ∷ []) $ free1 ! $
-            move ! (12 ∷ 13 ∷ []) $ free1 ! $ move ! (10 ∷ 11 ∷ []) $ free1 ! $ move ! (8 ∷ 9 ∷ []) $ free1 ! $
-            move ! (6 ∷ 7 ∷ []) $ free1 ! $ move ! (4 ∷ 5 ∷ []) $ free1 ! $ free0 ! $
+        move ! (24 ∷ 25 ∷ []) $ free1 ! $ move ! (22 ∷ 23 ∷ []) $ free1 ! $ move ! (20 ∷ 21 ∷ []) $ free1 ! $
+        move ! (18 ∷ 19 ∷ []) $ free1 ! $ move ! (16 ∷ 17 ∷ []) $ free1 ! $ move ! (14 ∷ 15 ∷ []) $ free1 ! $
+        move ! (12 ∷ 13 ∷ []) $ free1 ! $ move ! (10 ∷ 11 ∷ []) $ free1 ! $ move ! (8 ∷ 9 ∷ []) $ free1 ! $
+        move ! (6 ∷ 7 ∷ []) $ free1 ! $ move ! (4 ∷ 5 ∷ []) $ free1 ! $ free0 ! $
         keep ! (0 ∷ 2 ∷ 3 ∷ []) $ by ! (exits f w (e′ ∙ header-read (now s))))))))))))))))))))))))))))))
 
 module _ {M : Type 1} (𝓤 : URA M) (H : Heap 𝓤) (A : Atoms 𝓤) (W : Given 𝓤 H A) (mem : Memory → SProp 𝓤) (run : Routine → Fun 𝓤)
-    where
-  leads-walks : (C : Calls 𝓤 H) (Λ : Loops 𝓤 H) → FmC 𝓤 H (W .laws) C → Triple 𝓤 (C #varint·reader·Reader·new)
-      (New 𝓤 H A mem run) → Triple 𝓤 (C #varint·reader·Reader·next) (Next 𝓤 H A mem run) → Triple 𝓤
-      (C #notice·leading·header-by) (Judge 𝓤 H A mem run)
-      → Walks 𝓤 H A leads.ended stayed (WpFn 𝓤 H C Λ code.function) (leads.clauses 𝓤 H A mem run)
-  leads-walks C Λ fm known-new known-next known-judge = walked 𝓤 H A leads.ended stayed (leads.clauses 𝓤 H A mem run)
-      (WpFn 𝓤 H C Λ code.function) (λ κs. (slice-vals, tt)) (λ κs. (shr-slice-tells (named 0) (κs .0) u8, tt))
-      (λ κs qs bounds a g are. via 𝓤 _ (fst∗ 𝓤 _ (emp 𝓤)) (walk 𝓤 H A W mem run (κs .0) (qs .0) (a .0) C Λ fm known-new
-          known-next known-judge (are .0)))
+  where
+    leads-walks : (C : Calls 𝓤 H) (Λ : Loops 𝓤 H) → FmC 𝓤 H (W .laws) C → Triple 𝓤 (C #varint·reader·Reader·new)
+        (New 𝓤 H A mem run) → Triple 𝓤 (C #varint·reader·Reader·next) (Next 𝓤 H A mem run) → Triple 𝓤
+        (C #notice·leading·header-by) (Judge 𝓤 H A mem run)
+        → Walks 𝓤 H A leads.ended stayed (WpFn 𝓤 H C Λ code.function) (leads.clauses 𝓤 H A mem run)
+    leads-walks C Λ fm known-new known-next known-judge = walked 𝓤 H A leads.ended stayed (leads.clauses 𝓤 H A mem run)
+        (WpFn 𝓤 H C Λ code.function) (λ κs. (slice-vals, tt)) (λ κs. (shr-slice-tells (named 0) (κs .0) u8, tt))
+        (λ κs qs bounds a g are. via 𝓤 _ (fst∗ 𝓤 _ (emp 𝓤)) (walk 𝓤 H A W mem run (κs .0) (qs .0) (a .0) C Λ fm known-new
+        known-next known-judge (are .0)))
 
 leads-meets : {M : Type 1} (𝓤 : URA M) (H : Heap 𝓤) (A : Atoms 𝓤) (W : Given 𝓤 H A) (mem : Memory → SProp 𝓤)
     (run : Routine → Fun 𝓤) (𝓣 : Tables 𝓤 H)
     → Triple 𝓤 (𝓣 .C #varint·reader·Reader·new) (New 𝓤 H A mem run) → Triple 𝓤 (𝓣 .C #varint·reader·Reader·next)
-        (Next 𝓤 H A mem run) → Triple 𝓤 (𝓣 .C #notice·leading·header-by) (Judge 𝓤 H A mem run)
+    (Next 𝓤 H A mem run) → Triple 𝓤 (𝓣 .C #notice·leading·header-by) (Judge 𝓤 H A mem run)
     → Meets 𝓤 H A leads.signature (WpFn 𝓤 H (𝓣 .C) (𝓣 .Λ) code.function) (leads.spec 𝓤 H A mem run)
 leads-meets 𝓤 H A W mem run 𝓣 known-new known-next known-judge = walk-meets 𝓤 H A leads.ended stayed W
     (goes-none-slice 𝓤 H A W 1 (0 ∷ []) tt (plain (λ _. u8)) yes, tt) (leads.clauses 𝓤 H A mem run)
@@ -263,11 +263,11 @@ unfolding code.routine tablesOf
 leading-fields-spec 𝓤 H 𝓜 𝓖 𝓡 =
     entered 𝓤 H (tripleOf 𝓤 H (𝓖 .A) leads.signature (leads.spec 𝓤 H (𝓖 .A) (𝓜 .mem) (𝓡 .run)))
     (tables 𝓤 H 𝓜 𝓡 code.env .C) (tables 𝓤 H 𝓜 𝓡 code.env .Λ) #notice·leading·leading-fields code.function
-        (code.unfolded 𝓤 H 𝓜 𝓡)
+    (code.unfolded 𝓤 H 𝓜 𝓡)
     (leads-meets 𝓤 H (𝓖 .A) (givenOf 𝓤 H 𝓜 𝓖) (𝓜 .mem) (𝓡 .run) (tablesOf 𝓤 H 𝓜 (tables 𝓤 H 𝓜 𝓡 code.env))
     (cited 𝓤 H (New 𝓤 H (𝓖 .A) (𝓜 .mem) (𝓡 .run)) 𝓜 𝓡 code.env #varint·reader·Reader·new new-def.routine
-        code.calls-varint·reader·Reader·new (new-thm.met 𝓤 H 𝓜 𝓖 𝓡))
+    code.calls-varint·reader·Reader·new (new-thm.met 𝓤 H 𝓜 𝓖 𝓡))
     (cited 𝓤 H (Next 𝓤 H (𝓖 .A) (𝓜 .mem) (𝓡 .run)) 𝓜 𝓡 code.env #varint·reader·Reader·next next-def.routine
-        code.calls-varint·reader·Reader·next (next-thm.met 𝓤 H 𝓜 𝓖 𝓡))
+    code.calls-varint·reader·Reader·next (next-thm.met 𝓤 H 𝓜 𝓖 𝓡))
     (cited 𝓤 H (Judge 𝓤 H (𝓖 .A) (𝓜 .mem) (𝓡 .run)) 𝓜 𝓡 code.env #notice·leading·header-by header-by-def.routine
-        code.calls-notice·leading·header-by (header-by-thm.met 𝓤 H 𝓜 𝓖 𝓡)))
+    code.calls-notice·leading·header-by (header-by-thm.met 𝓤 H 𝓜 𝓖 𝓡)))

@@ -160,11 +160,11 @@ module _ {M : Type 1} (𝓤 : URA M) (H : Heap 𝓤) (A : Atoms 𝓤) (W : Given
       qed W (‵ Own ∷ (‵ (flft κ′ q′) ⊛ ‵ ftrue) ∷ []) ∵
       use1 W (‵ Own ⊛ ‵ Own) (LL.copy D (T′.the-copy α) 𝓤 H A W .twice h (mach ∷ [])) $ split ! $
       use1 W (given (mach ∷ [] ≡ mach ∷ []) (‵ (all-own (D .parts) L vh))) (own-open 𝓤 H A W D L vh mach) $
-          learn ! (λ _. use1 W (‵ (ownAt (D .parts) L 0 (h .src)) ⊛ ‵ (rest (D .parts) L 0 vh))
-          (own-out 𝓤 H A W (D .parts) L 0 vh) $ split ! $
+      learn ! (λ _. use1 W (‵ (ownAt (D .parts) L 0 (h .src)) ⊛ ‵ (rest (D .parts) L 0 vh))
+      (own-out 𝓤 H A W (D .parts) L 0 vh) $ split ! $
       -- [what src owns; what at owns; what the reader owns; the token]
       move ! (1 ∷ []) $ drop ! $ nothing ! $ owned ! usize (Is usize) (uint-makes 𝓤 H A W w64) (h .at) _ (refl, g) $ fjoin ! $
-          move ! (1 ∷ 0 ∷ []) $ fjoin ! $
+      move ! (1 ∷ 0 ∷ []) $ fjoin ! $
       move ! (2 ∷ 0 ∷ []) $ use2 W (raw (Reads 𝓤 H A at-mem run .pre to-reads)) asked $ frame ! $ done !)
 
   read-said : (r : Number) → ent 𝓤 (ensured 𝓤 H A reads.ended (reads.clauses 𝓤 H A at-mem run) (κ′, tt) (h .src, (h .at, tt))
@@ -180,12 +180,12 @@ module _ {M : Type 1} (𝓤 : URA M) (H : Heap 𝓤) (A : Atoms 𝓤) (W : Given
   goes-places r u g =
       qed W (‵ (N.the-row .own r (u ∷ [])) ∷ []) ∵
       use1 W (‵ (N.the-row .own r (u ∷ [])) ⊛ ‵ (N.the-row .own r (u ∷ [])))
-          (EL.copy N.the-type N′.the-copy 𝓤 H A W .twice r (u ∷ [])) $ split ! $
+      (EL.copy N.the-type N′.the-copy 𝓤 H A W .twice r (u ∷ [])) $ split ! $
       nothing ! $ move ! (1 ∷ 0 ∷ []) $ fjoin ! $ owned ! usize (Is usize) (uint-makes 𝓤 H A W w64) (h .at) _ (refl, g) $
-          fjoin ! $ nothing ! $ join ! $
+      fjoin ! $ nothing ! $ join ! $
       use1 W (raw (Places 𝓤 H A at-mem run .pre (to-places r u)))
-          (qed W ((‵ ftrue ⊛ ‵ (owns (usize ∷ N.the-row ∷ []) (h .at, (r, tt)) (vint w64 (h .at) ∷ [], (u ∷ [], tt)))) ∷ []) ∵
-          frame ! $ done !) $ frame ! $ done !
+      (qed W ((‵ ftrue ⊛ ‵ (owns (usize ∷ N.the-row ∷ []) (h .at, (r, tt)) (vint w64 (h .at) ∷ [], (u ∷ [], tt)))) ∷ []) ∵
+      frame ! $ done !) $ frame ! $ done !
 
   place-said : (r : Number) (m : ℕ) → ent 𝓤 (ensured 𝓤 H A places.ended (places.clauses 𝓤 H A at-mem run) tt (h .at, (r, tt))
       tt m) (fact 𝓤 (m ≡ placeAfter (h .at) r))
@@ -199,15 +199,15 @@ module _ {M : Type 1} (𝓤 : URA M) (H : Heap 𝓤) (A : Atoms 𝓤) (W : Given
 
   exits : (r : Number) (u : Val) (m : ℕ) → r ≡ found → m ≡ placeAfter (h .at) r
       → ent 𝓤 (⋆ 𝓤 H A (‵ (fobs γ (R .coded .code (h′ m))) ∷ ‵ (fbor κ (Body (mem R) b o γ)) ∷ ‵ (flft κ q) ∷ ‵
-          (N.the-row .own r (u ∷ [])) ∷ (‵ (flft κ′ q′) ⊛ ‵ ftrue) ∷ [])) (Post u)
+      (N.the-row .own r (u ∷ [])) ∷ (‵ (flft κ′ q′) ⊛ ‵ ftrue) ∷ [])) (Post u)
   exits r u m e f =
       qed W (‵ (fobs γ (R .coded .code (h′ m))) ∷ ‵ (fbor κ (Body (mem R) b o γ)) ∷ ‵ (flft κ q) ∷ ‵
-          (N.the-row .own r (u ∷ [])) ∷ (‵ (flft κ′ q′) ⊛ ‵ ftrue) ∷ []) ∵
+      (N.the-row .own r (u ∷ [])) ∷ (‵ (flft κ′ q′) ⊛ ‵ ftrue) ∷ []) ∵
       suffices ! _ (ends-at 𝓤 H A next.ended stayed (next.clauses 𝓤 H A at-mem run) W
-          (((κ, (κ′, tt)), (q, (q′, tt)), bounds, x, at), tt) u r (h′ m, tt) (tt, tt)) $
-          says ! (e, λ i. h′ ((f ∙ ap (placeAfter (h .at)) e) i)) $
+      (((κ, (κ′, tt)), (q, (q′, tt)), bounds, x, at), tt) u r (h′ m, tt) (tt, tt)) $
+      says ! (e, λ i. h′ ((f ∙ ap (placeAfter (h .at)) e) i)) $
       move ! (2 ∷ 4 ∷ []) $ join ! $ frame ! $ feqI ! (List Val) (vptr b o ∷ []) (vptr b o ∷ []) refl $ fjoin3 ! $ nothing ! $
-          move ! (1 ∷ 0 ∷ []) $ fjoin ! $ frame ! $ done !
+      move ! (1 ∷ 0 ∷ []) $ fjoin ! $ frame ! $ done !
 
   module _ (C : Calls 𝓤 H) (Λ : Loops 𝓤 H) (fm : FmC 𝓤 H (W .laws) C)
       (known-reads : Triple 𝓤 (C #varint·read-number) (Reads 𝓤 H A at-mem run))
@@ -216,9 +216,9 @@ module _ {M : Type 1} (𝓤 : URA M) (H : Heap 𝓤) (A : Atoms 𝓤) (W : Given
         (WpFn 𝓤 H C Λ code.function (vptr b o ∷ []) Post)
     walk =
         qed W ((‵ (flft κ q) ⊛ ‵ (flft κ′ q′) ⊛ ‵ ftrue) ∷ ‵ (owns (MutRef (named 0) κ R ∷ []) x at) ∷ []) ∵ enter ! C Λ
-            code.function (vptr b o ∷ []) _ $
+        code.function (vptr b o ∷ []) _ $
         alloc1 ! (λ l₀. alloc1 ! (λ l₁. alloc1 ! (λ l₂. alloc1 ! (λ l₃. alloc1 ! (λ l₄. alloc1 ! (λ l₅. alloc0 ! $ params1 ! $
-            pass1 ! (init ! 8 refl (tt, tt)) $ pass0 ! $
+        pass1 ! (init ! 8 refl (tt, tt)) $ pass0 ! $
         move ! (13 ∷ []) $ fsplit ! $ fsplit3 ! $ drop ! $ move ! (15 ∷ []) $ split ! $ move ! (2 ∷ 3 ∷ 0 ∷ []) $
         opens ! tt R {h = h} b o (λ vs. spelt ! R (Is R) (shows 𝓤 H A R) (LL.vals D L) (LL.tells D L) fullShare h vs b o $
         use1 W (‵ (fat fullShare (T′.mir erased) b o mach)) (W .laws .raw-at fullShare (T′.mir erased) b o mach) $
@@ -226,68 +226,70 @@ module _ {M : Type 1} (𝓤 : URA M) (H : Heap 𝓤) (A : Atoms 𝓤) (W : Given
         -- [the reader's cell; what a reader owns; the open borrow; obs; auth; the token of 'a; …; _5; …; _4; …; _3; …; _2; …;
         -- _1; …; room for _0; …]
         assigns ! (of-opd ! (load ! (from ! (hop ! (look ! 15 refl) (fld ! refl (stop !))))
-            (look-in ! 0 (sub ! 1 refl (whole !))))) (from ! (stop !)) (init ! 13 refl (tt, record { fits = fits g })) $
+        (look-in ! 0 (sub ! 1 refl (whole !))))) (from ! (stop !)) (init ! 13 refl (tt, record { fits = fits g })) $
         assigns ! (of-opd ! (load ! (from ! (hop ! (look ! 15 refl) (fld ! refl (stop !))))
-            (look-in ! 0 (sub ! 0 refl (whole !))))) (from ! (stop !))
-            (init ! 9 refl (tt, (tt, (record { fits = count-fits g }, tt)))) $
+        (look-in ! 0 (sub ! 0 refl (whole !))))) (from ! (stop !))
+        (init ! 9 refl (tt, (tt, (record { fits = count-fits g }, tt)))) $
         move ! (1 ∷ 5 ∷ []) $ use2 W (raw (Reads 𝓤 H A at-mem run .pre to-reads) ⊛ ‵ Own) (apart (fits g)) $ split ! $
         calls-at ! fm (Reads 𝓤 H A at-mem run) known-reads to-reads
-            (and-then ! (load ! (from ! (stop !)) (look ! 9 refl))
-            (and-then ! (load ! (from ! (stop !)) (look ! 13 refl)) (no-more !))) (λ u.
+        (and-then ! (load ! (from ! (stop !)) (look ! 9 refl))
+        (and-then ! (load ! (from ! (stop !)) (look ! 13 refl)) (no-more !))) (λ u.
         use1 W (later (some (λ (r : Number). ((‵ (flft κ′ q′) ⊛ ‵ ftrue) ⊛ ‵ (N.the-row .own r (u ∷ []))) ⊛ raw
-            (ensured 𝓤 H A reads.ended (reads.clauses 𝓤 H A at-mem run) (κ′, tt) (h .src, (h .at, tt)) tt r)))) (id⊢ 𝓤 _) $
-            await ! tt $ pick ! (λ r.
+        (ensured 𝓤 H A reads.ended (reads.clauses 𝓤 H A at-mem run) (κ′, tt) (h .src, (h .at, tt)) tt r)))) (id⊢ 𝓤 _) $
+        await ! tt $ pick ! (λ r.
         split ! $ move ! (1 ∷ []) $ use1 W (raw (fact 𝓤 (r ≡ found))) (read-said r) $ heard ! (r ≡ found) (λ e. split ! $
-            move ! (1 ∷ []) $
+        move ! (1 ∷ []) $
         peeks ! N.the-row (Is N.the-row) (shows 𝓤 H A N.the-row) r (u ∷ [])
-            (λ is. land ! (from ! (stop !)) (init ! 12 refl (typed r u is)) $
+        (λ is. land ! (from ! (stop !)) (init ! 12 refl (typed r u is)) $
         use1 W (raw (Places 𝓤 H A at-mem run .pre (to-places r u)) ⊛ ‵ (N.the-row .own r (u ∷ []))) (goes-places r u (fits g))
-            $ split ! $
+        $ split ! $
         -- [what `place_after` asks; the number; the token of 'a; what a reader owns; its cell; the open borrow; obs; auth; …;
         -- _5; …; _4; …; _3; …; _2; …; _1; …; room for _0; …]
         calls-at ! fm (Places 𝓤 H A at-mem run) known-places (to-places r u)
-            (and-then ! (load ! (from ! (stop !)) (look ! 15 refl))
-            (and-then ! (load ! (from ! (stop !)) (look ! 13 refl)) (no-more !))) (λ w.
+        (and-then ! (load ! (from ! (stop !)) (look ! 15 refl))
+        (and-then ! (load ! (from ! (stop !)) (look ! 13 refl)) (no-more !))) (λ w.
         use1 W (later (some (λ (m : ℕ). (‵ ftrue ⊛ ‵ (usize .own m (w ∷ []))) ⊛ raw
-            (ensured 𝓤 H A places.ended (places.clauses 𝓤 H A at-mem run) tt (h .at, (r, tt)) tt m)))) (id⊢ 𝓤 _) $
-            await ! tt $ pick ! (λ m.
+        (ensured 𝓤 H A places.ended (places.clauses 𝓤 H A at-mem run) tt (h .at, (r, tt)) tt m)))) (id⊢ 𝓤 _) $
+        await ! tt $ pick ! (λ m.
         split ! $ move ! (1 ∷ []) $ use1 W (raw (fact 𝓤 (m ≡ placeAfter (h .at) r))) (place-said r m) $
-            heard ! (m ≡ placeAfter (h .at) r) (λ f. split ! $ move ! (1 ∷ []) $
+        heard ! (m ≡ placeAfter (h .at) r) (λ f. split ! $ move ! (1 ∷ []) $
         peeks ! usize (Is usize) (shows 𝓤 H A usize) m (w ∷ []) (λ is′. land ! (from ! (stop !))
-            (init ! 10 refl (uint-lawful 𝓤 H A W w64 .typed m _ is′ .0)) $
-            rewrite ! 10 (λ (z : Val). ‵ (fat fullShare (tyInt w64) l₅ 0 z)) (ap only (is′ .0)) refl $
+        (init ! 10 refl (uint-lawful 𝓤 H A W w64 .typed m _ is′ .0)) $
+        rewrite ! 10 (λ (z : Val). ‵ (fat fullShare (tyInt w64) l₅ 0 z)) (ap only (is′ .0)) refl $
         -- [the place; …; the number; the token of 'a; what a reader owns; its cell; the open borrow; obs; auth; …; _5; …; _4;
         -- …; _3; …; _2; …; _1; …; room for _0; …]
         assigns ! (of-opd ! (load ! (from ! (stop !)) (look ! 10 refl)))
-            (from ! (hop ! (look ! 18 refl) (fld ! refl (stop !))))
-            (store-in ! 5 (sub ! 1 refl (whole !)) (tt, record { fits = is′ .1 })) $
+        (from ! (hop ! (look ! 18 refl) (fld ! refl (stop !))))
+        (store-in ! 5 (sub ! 1 refl (whole !)) (tt, record { fits = is′ .1 })) $
         assigns ! (of-opd ! (load ! (from ! (stop !)) (look ! 14 refl))) (from ! (stop !)) (init ! 20 refl (typed r u is)) $
         -- the borrow is closed at the reader moved on
         move ! (4 ∷ []) $ use1 W (‵ (R .own (h′ m) (T′.lowered (h′ m) ∷ []))) (again m (is′ .1)) $
         move ! (5 ∷ []) $ use1 W (‵ (cellAt fullShare (R .mir) (T′.lowered (h′ m) ∷ []) b o))
-            (W .laws .at-raw fullShare (T′.mir erased) b o (T′.lowered (h′ m))) $
+        (W .laws .at-raw fullShare (T′.mir erased) b o (T′.lowered (h′ m))) $
         move ! (0 ∷ 1 ∷ 6 ∷ 7 ∷ 8 ∷ []) $ closes ! tt R (h′ m) (T′.lowered (h′ m) ∷ []) b o $
         returns ! (look ! 18 refl) $ forget ! 8 refl $ forget ! 10 refl $ forget ! 12 refl $ forget ! 14 refl $
-            forget ! 16 refl $ forget ! 18 refl $
+        forget ! 16 refl $ forget ! 18 refl $
         move ! (18 ∷ 19 ∷ []) $ free1 ! $ move ! (16 ∷ 17 ∷ []) $ free1 ! $ move ! (14 ∷ 15 ∷ []) $ free1 ! $
-            move ! (12 ∷ 13 ∷ []) $ free1 ! $ move ! (10 ∷ 11 ∷ []) $ free1 ! $ move ! (8 ∷ 9 ∷ []) $ free1 ! $ free0 ! $
+        move ! (12 ∷ 13 ∷ []) $ free1 ! $ move ! (10 ∷ 11 ∷ []) $ free1 ! $ move ! (8 ∷ 9 ∷ []) $ free1 ! $ free0 ! $
         keep ! (0 ∷ 1 ∷ 2 ∷ 5 ∷ 6 ∷ []) $ by ! (exits r u m e f)))))))))))))))))
 
 module _ {M : Type 1} (𝓤 : URA M) (H : Heap 𝓤) (A : Atoms 𝓤) (W : Given 𝓤 H A) (mem : Memory → SProp 𝓤) (run : Routine → Fun 𝓤)
-    where
-  next-walks : (C : Calls 𝓤 H) (Λ : Loops 𝓤 H) → FmC 𝓤 H (W .laws) C → Triple 𝓤 (C #varint·read-number) (Reads 𝓤 H A mem run) →
-      Triple 𝓤 (C #varint·reader·place-after) (Places 𝓤 H A mem run)
-      → Walks 𝓤 H A next.ended stayed (WpFn 𝓤 H C Λ code.function) (next.clauses 𝓤 H A mem run)
-  next-walks C Λ fm known-reads known-places = walked 𝓤 H A next.ended stayed (next.clauses 𝓤 H A mem run)
-      (WpFn 𝓤 H C Λ code.function) (λ κs. (ptr-vals, tt)) (λ κs. (mut-tells (named 0) (κs .0) (T.the-row (namedLft 2 1 tt κs)),
-      tt))
-      (λ κs qs bounds a g are. via 𝓤 _ (fst∗ 𝓤 _ (emp 𝓤)) (walk 𝓤 H A W mem run (κs .0) (κs .1 .0) (qs .0) (qs .1 .0) bounds
-          (a .0 .ptr .0) (a .0 .ptr .1) (a .0 .name) (a .0 .now) C Λ fm known-reads known-places))
+  where
+    next-walks : (C : Calls 𝓤 H) (Λ : Loops 𝓤 H) → FmC 𝓤 H (W .laws) C → Triple 𝓤 (C #varint·read-number) (Reads 𝓤 H A mem run) →
+        Triple 𝓤 (C #varint·reader·place-after) (Places 𝓤 H A mem run)
+        → Walks 𝓤 H A next.ended stayed (WpFn 𝓤 H C Λ code.function) (next.clauses 𝓤 H A mem run)
+    next-walks C Λ fm known-reads known-places = walked 𝓤 H A next.ended stayed (next.clauses 𝓤 H A mem run)
+        (WpFn 𝓤 H C Λ code.function) (λ κs. (ptr-vals, tt)) (λ κs. (
+          mut-tells (named 0) (κs .0) (T.the-row (namedLft 2 1 tt κs)),
+          tt,
+        ))
+        (λ κs qs bounds a g are. via 𝓤 _ (fst∗ 𝓤 _ (emp 𝓤)) (walk 𝓤 H A W mem run (κs .0) (κs .1 .0) (qs .0) (qs .1 .0) bounds
+        (a .0 .ptr .0) (a .0 .ptr .1) (a .0 .name) (a .0 .now) C Λ fm known-reads known-places))
 
 next-meets : {M : Type 1} (𝓤 : URA M) (H : Heap 𝓤) (A : Atoms 𝓤) (W : Given 𝓤 H A) (mem : Memory → SProp 𝓤)
     (run : Routine → Fun 𝓤) (𝓣 : Tables 𝓤 H)
     → Triple 𝓤 (𝓣 .C #varint·read-number) (Reads 𝓤 H A mem run) → Triple 𝓤 (𝓣 .C #varint·reader·place-after)
-        (Places 𝓤 H A mem run)
+    (Places 𝓤 H A mem run)
     → Meets 𝓤 H A next.signature (WpFn 𝓤 H (𝓣 .C) (𝓣 .Λ) code.function) (next.spec 𝓤 H A mem run)
 next-meets 𝓤 H A W mem run 𝓣 known-reads known-places = walk-meets 𝓤 H A next.ended stayed W
     (goes-ref 𝓤 H A W 2 0 tt behind, tt) (next.clauses 𝓤 H A mem run) (WpFn 𝓤 H (𝓣 .C) (𝓣 .Λ) code.function)
@@ -301,6 +303,6 @@ next-spec 𝓤 H 𝓜 𝓖 𝓡 =
     (tables 𝓤 H 𝓜 𝓡 code.env .C) (tables 𝓤 H 𝓜 𝓡 code.env .Λ) #varint·reader·Reader·next code.function (code.unfolded 𝓤 H 𝓜 𝓡)
     (next-meets 𝓤 H (𝓖 .A) (givenOf 𝓤 H 𝓜 𝓖) (𝓜 .mem) (𝓡 .run) (tablesOf 𝓤 H 𝓜 (tables 𝓤 H 𝓜 𝓡 code.env))
     (cited 𝓤 H (Reads 𝓤 H (𝓖 .A) (𝓜 .mem) (𝓡 .run)) 𝓜 𝓡 code.env #varint·read-number reads-def.routine
-        code.calls-varint·read-number (reads-thm.met 𝓤 H 𝓜 𝓖 𝓡))
+    code.calls-varint·read-number (reads-thm.met 𝓤 H 𝓜 𝓖 𝓡))
     (cited 𝓤 H (Places 𝓤 H (𝓖 .A) (𝓜 .mem) (𝓡 .run)) 𝓜 𝓡 code.env #varint·reader·place-after places-def.routine
-        code.calls-varint·reader·place-after (places-thm.met 𝓤 H 𝓜 𝓖 𝓡)))
+    code.calls-varint·reader·place-after (places-thm.met 𝓤 H 𝓜 𝓖 𝓡)))
