@@ -117,6 +117,7 @@ module _ {M : Type 1} (𝓤 : URA M) (H : Heap 𝓤) (A : Atoms 𝓤) (at-mem : 
 
 module _ {M : Type 1} {𝓤 : URA M} {H : Heap 𝓤} {A : Atoms 𝓤} {K : Type 0} {W : Given 𝓤 H A} {Γ : List (Item 𝓤)} {E : Env 𝓤 H}
     {C : Calls 𝓤 H} {Λ : Loops 𝓤 H} {p : Post 𝓤 H} {xs : List Operand} {d : Place} {rest : Code} where
+  -- The call rule: the reader that lies at b gives its number, and lies there moved on.
   pub gives : K → FmC 𝓤 H (W .laws) C → (at-mem : Memory → SProp 𝓤) (run : Routine → Fun 𝓤) → Triple 𝓤
       (C #varint·reader·Reader·next) (Next 𝓤 H A at-mem run)
       → (κ : Lft) (q : Share) (h : Reader) (b : ℕ)
