@@ -4,6 +4,7 @@ pub mod Codes
 pub mod Told
 pub mod LineLaws
 pub mod HeaderLaws
+pub mod LeadingLaws
 pub mod LinesLaws
 pub mod ValidLines
 pub mod NoticeLaws

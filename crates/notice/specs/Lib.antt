@@ -3,3 +3,4 @@ pub mod Field
 pub mod LineRule
 pub mod NoticeRule
 pub mod Layout
+pub mod Leading

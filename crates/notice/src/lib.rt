@@ -8,10 +8,12 @@ ghost use Rattle.notice.specs.Field.{readRanged};
 ghost use Rattle.notice.specs.LineRule.{isCountry, codeField, readCode, offered, readIncrements, readRate, readTerms, readListed, readLine, lineAt};
 ghost use Rattle.notice.specs.NoticeRule.{countryField, readCountry, readNamed, readDated, readHeader, readLines, scanned, checkNotice};
 
+mod leading;
 mod write;
 
 use dial_code::Country;
 use dial_code::Keyed;
+pub use leading::leading_fields;
 use rate::Day;
 use rate::Offer;
 use rate::Priced;

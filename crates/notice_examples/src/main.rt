@@ -1,6 +1,8 @@
 // A notice written line by line and read again: an update of day 100 with 23480 at 0.09, 234806 blocked and 44 deleted from day
-// 110 on. Prints sizes, the bytes, what they read as, and what writing into a buffer one byte short leaves.
+// 110 on. Prints sizes, the bytes, what they read as, and what writing into a buffer one byte short leaves. Then the leading
+// fields of a notice of each kind, and the refusals of damaged ones.
 use notice::Checked;
+use notice::HeaderRead;
 use notice::Line;
 use rate::Offer;
 use rate::Rate;
@@ -65,6 +67,40 @@ fn print_checked(bytes: &[u8]) {
     end_line();
 }
 
+fn print_leading(bytes: &[u8]) {
+    match notice::leading_fields(bytes) {
+        HeaderRead::Refused(e) => print(e),
+        HeaderRead::Leads(h) => {
+            print(0);
+            print(h.kind);
+            print(h.received);
+            print(h.country);
+            print(h.lines);
+            print(h.start as u64);
+        }
+    }
+    end_line();
+}
+
+// A full notice of day 100, a partial one of day 300 and an update of day 100, each blocking 23480, and a replacement of country
+// 44 of day 100 that blocks 441.
+fn print_kinds() {
+    print_leading(&[1, 100, 1, 5, 184, 183, 1, 1, 0]);
+    print_leading(&[2, 172, 2, 1, 5, 184, 183, 1, 1, 0]);
+    print_leading(&[3, 100, 1, 5, 184, 183, 1, 1, 0]);
+    print_leading(&[4, 100, 2, 44, 1, 3, 185, 3, 1, 0]);
+}
+
+// An update that ends after its received day, one whose received day is not shortest, a notice of kind 5, an update of day
+// 60,001, and a replacement of 044.
+fn print_damaged() {
+    print_leading(&[3, 100]);
+    print_leading(&[3, 128, 0, 1]);
+    print_leading(&[5, 100, 1]);
+    print_leading(&[3, 225, 212, 3, 1]);
+    print_leading(&[4, 100, 3, 44, 1]);
+}
+
 fn main() {
     let open = line(
         5,
@@ -99,4 +135,6 @@ fn main() {
     print(left as u64);
     end_line();
     print_bytes(&short);
+    print_kinds();
+    print_damaged();
 }

@@ -1,4 +1,5 @@
--- The rules of numbers in groups of seven bits.
+-- The rules of numbers in groups of seven bits, and of a reader that gives them one by one.
 pub mod Reading
 pub mod Writing
 pub mod Several
+pub mod Standing

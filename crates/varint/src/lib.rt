@@ -9,6 +9,10 @@ ghost use Rattle.varint.specs.Reading.{readNumber};
 ghost use Rattle.varint.specs.Writing.{encode, sizeOf, answer, left};
 ghost use Rattle.varint.specs.Several.{sizeOfAll, answerAll, leavesAll};
 
+mod reader;
+
+pub use reader::Reader;
+
 // At most so many groups.
 const MOST_GROUPS: u64 = 9;
 // The least number that nine groups do not hold, 2 to the power 63.

@@ -1,0 +1,37 @@
+-- `notice::leading::in_range` meets its contract: a return for each side of the range. Assumes nothing.
+use mathlib.Core.Path.{sym, _∙_}
+use borrow.Author.Needs.{needs}
+use borrow.Author.Tests.{le-leb, lt-leb}
+use Rattle.notice.proofs.Links.{on-value, on-refused, yes-case, no-case}
+use Rattle.dial_code.proofs.Tests.{and-left-true, and-left-false}
+use Rattle.notice.proofs.leading.in_range.Statement.{statement}
+use Rattle.notice.proofs.leading.in_range.Tie as tie
+
+enum-known-read : tie.Need-enum-known-read
+enum-known-read c = search needs
+
+enum-known-read-2 : tie.Need-enum-known-read-2
+enum-known-read-2 c = search needs
+
+returns : tie.Need-returns
+returns c = sym (on-value _ _ (c .before .before .read2 .given .1) ∙ no-case _ _
+    (and-left-false _ (lt-leb _ _ (c .if1 .taken))))
+
+returns-2 : tie.Need-returns-2
+returns-2 c =
+    sym
+    (on-value _ _ (c .before .before .before .read2 .given .1)
+    ∙ no-case _ _ (and-left-true _ (le-leb _ _ (c .before .if1 .left)) ∙ lt-leb _ _ (c .if2 .taken)))
+
+returns-3 : tie.Need-returns-3
+returns-3 c = sym (on-refused _ _ (c .before .read .given .1))
+
+returns-4 : tie.Need-returns-4
+returns-4 c =
+    sym
+    (on-value _ _ (c .before .before .before .read2 .given .1)
+    ∙ yes-case _ _ (and-left-true _ (le-leb _ _ (c .before .if1 .left)) ∙ le-leb _ _ (c .if2 .left)))
+
+pub in-range-spec : {M : Type 1} → statement M
+in-range-spec =
+    tie.close (tie.spec enum-known-read enum-known-read-2 returns returns-2 returns-3 returns-4)

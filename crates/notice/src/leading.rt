@@ -1,0 +1,112 @@
+// A notice's leading fields (document 01, "Notice layout"), read through a reader that gives its numbers one by one.
+ghost use mathlib.Core.Path.{_≡_};
+ghost use Rattle.notice.specs.NoticeRule.{readHeader};
+ghost use Rattle.notice.specs.Leading.{inRange, countryBy, linesBy, datedBy, headerBy};
+use crate::Header;
+use crate::HeaderRead;
+use rate::Day;
+use varint::Number;
+use varint::Reader;
+
+// A number from least to most.
+fn in_range(read: Number, least: u64, most: u64) -> Number
+    ensures { λ r. ⌜ r ≡ inRange read least most ⌝ }
+{
+    match read {
+        Number::Refused(e) => Number::Refused(e),
+        Number::Value(n, next) => {
+            if n < least {
+                return Number::Refused(refusal::OUT_OF_RANGE);
+            }
+            if most < n {
+                return Number::Refused(refusal::OUT_OF_RANGE);
+            }
+            Number::Value(n, next)
+        }
+    }
+}
+
+// A replacement's country, by its digit count and its value.
+fn country_by(count: Number, value: Number) -> Number
+    ensures { λ r. ⌜ r ≡ countryBy count value ⌝ }
+{
+    match in_range(count, 1, dial_code::MOST_DIGITS) {
+        Number::Refused(e) => Number::Refused(e),
+        Number::Value(digits, _) => match value {
+            Number::Refused(e) => Number::Refused(e),
+            Number::Value(country, end) => crate::country_field(digits, country, end),
+        },
+    }
+}
+
+// The header, by its number of lines.
+fn lines_by(kind: u64, received: u64, country: u64, count: Number) -> HeaderRead
+    ensures { λ r. ⌜ r ≡ linesBy kind received country count ⌝ }
+{
+    match in_range(count, 1, crate::MOST_LINES) {
+        Number::Refused(e) => HeaderRead::Refused(e),
+        Number::Value(lines, start) => HeaderRead::Leads(Header {
+            kind,
+            received,
+            country,
+            lines,
+            start,
+        }),
+    }
+}
+
+// The header, by the numbers after the kind.
+fn dated_by(kind: u64, received: Number, third: Number, fourth: Number, fifth: Number) -> HeaderRead
+    ensures { λ r. ⌜ r ≡ datedBy kind received third fourth fifth ⌝ }
+{
+    match in_range(received, 0, Day::LAST_RECEIVED.0) {
+        Number::Refused(e) => HeaderRead::Refused(e),
+        Number::Value(day, _) => {
+            if kind == crate::REPLACEMENT {
+                return match country_by(third, fourth) {
+                    Number::Refused(e) => HeaderRead::Refused(e),
+                    Number::Value(country, _) => lines_by(kind, day, country, fifth),
+                };
+            }
+            lines_by(kind, day, 0, third)
+        }
+    }
+}
+
+// The header, by the five numbers that a notice starts with. Only a replacement has the last two before its lines.
+fn header_by(
+    kind: Number,
+    received: Number,
+    third: Number,
+    fourth: Number,
+    fifth: Number,
+) -> HeaderRead
+    ensures { λ r. ⌜ r ≡ headerBy kind received third fourth fifth ⌝ }
+{
+    match kind {
+        Number::Refused(e) => HeaderRead::Refused(e),
+        Number::Value(known, _) => {
+            if known < 1 {
+                return HeaderRead::Refused(refusal::UNKNOWN_KIND);
+            }
+            if crate::REPLACEMENT < known {
+                return HeaderRead::Refused(refusal::UNKNOWN_KIND);
+            }
+            dated_by(known, received, third, fourth, fifth)
+        }
+    }
+}
+
+// The fields before the lines, each the number that the reader gives next. A reader that cannot read stays where it is, and what
+// it gives from then on is not looked at.
+pub fn leading_fields(notice: &[u8]) -> HeaderRead
+    ensures { λ r. ⌜ r ≡ readHeader (now (notice .entry)) ⌝ }
+{
+    let mut reader = Reader::new(notice);
+    let kind = reader.next();
+    let received = reader.next();
+    let third = reader.next();
+    let fourth = reader.next();
+    let fifth = reader.next();
+    header_by(kind, received, third, fourth, fifth)
+}
