@@ -2,7 +2,7 @@
 use mathlib.Core.Path.{_≡_, refl, ap, sym, _∙_}
 use mathlib.Core.Bool.{Bool, true, false, cond, _&&_, false≢true}
 use mathlib.Core.List.{List, [], _∷_}
-use Prim.Native.Nat.{ℕ, zero, suc, _+_, _*_, _/_, _^_, _≤_, _<_}
+use Prim.Native.Nat.{ℕ, _*_, _^_, _≤_, _<_}
 use native.Mathlib.Omega.{arith}
 use borrow.Author.Tests.{leb-true}
 use lib.Dec.{leb, ltb}
@@ -10,7 +10,6 @@ use lib.ListN.{length}
 use Rattle.refusal.specs.Refusal.{outOfRange, notANumber}
 use Rattle.dial_code.specs.Digits.{every, isDigit, digits, isWritten, isNumber}
 use Rattle.dial_code.specs.Key.{key, firstPlace, digitsOfKey, codeKey, sentNumberKey}
-use Rattle.dial_code.specs.declared.Keyed.{Keyed}
 use Rattle.dial_code.specs.declared.Keyed.the-variants.{Key, Refused}
 use Rattle.dial_code.proofs.DigitLaws.{length-digits, digits-are, no-digits, zero-first, number-cons, number-facts}
 use Rattle.dial_code.proofs.KeyLaws.{key-first, digits-back}

@@ -4,3 +4,4 @@ pub mod Records
 pub mod Rows
 pub mod MostCharged
 pub mod BatchTests
+pub mod BatchLaws
