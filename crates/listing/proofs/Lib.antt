@@ -1,0 +1,3 @@
+-- The laws of the standing list.
+pub mod Passing
+pub mod Sizes
