@@ -14,6 +14,7 @@ use Rattle.listing.proofs.entry_at.Statement.{statement}
 use Rattle.listing.proofs.entry_at.Tie as tie
 use Rattle.listing.proofs.entry_at.Reads as reads
 use Rattle.listing.proofs.entry_at.Lts as lts
+use Rattle.book.specs.Layout.{entryAt}
 
 -- src/lib.rt:43:14
 mul-t3 : tie.Need-mul-t3
@@ -49,7 +50,8 @@ shared-slice-read-t13 c = search needs
 
 -- src/lib.rt:38:1
 returns : tie.Need-returns
-returns c = ?
+unfolding entryAt
+returns c = refl
 
 pub entry-at-spec : {M : Type 1} → statement M
 entry-at-spec =

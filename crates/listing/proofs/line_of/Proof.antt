@@ -15,6 +15,7 @@ use Rattle.listing.proofs.line_of.Tie as tie
 use Rattle.listing.proofs.line_of.Reads as reads
 use Rattle.listing.proofs.line_of.Lts as lts
 use Rattle.rate.proofs.word_offer.Reads as word-offer-reads
+use Rattle.listing.proofs.Turns.{line-is}
 
 -- src/lib.rt:74:11
 word-offer-requires : tie.Need-word-offer-requires
@@ -30,11 +31,11 @@ enum-told c = search needs
 
 -- src/lib.rt:71:1
 returns : tie.Need-returns
-returns c = ?
+returns c = line-is _ (c .before .before .before .word-offer .ensures) (c .before .offer .given .1)
 
 -- src/lib.rt:71:1
 returns-2 : tie.Need-returns-2
-returns-2 c = ?
+returns-2 c = line-is _ (c .before .before .word-offer .ensures) (c .enum-told .given .1)
 
 pub line-of-spec : {M : Type 1} → statement M
 line-of-spec =

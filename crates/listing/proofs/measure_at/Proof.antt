@@ -17,6 +17,12 @@ use Rattle.listing.proofs.measure_at.Lts as lts
 use Rattle.listing.proofs.is_standing.Reads as is-standing-reads
 use Rattle.listing.proofs.line_of.Reads as line-of-reads
 use Rattle.notice.proofs.line_size.Reads as line-size-reads
+use borrow.Author.Tests.{not-true, not-false}
+use Rattle.listing.proofs.Turns.{extent-none, extent-one}
+use Rattle.listing.proofs.Sizes.{entry-sized}
+use Rattle.varint.specs.Several.{sizeOfAll}
+use Rattle.notice.specs.Layout.{lineFields}
+use Rattle.notice.specs.declared.Line.{Line}
 
 -- src/lib.rt:93:9
 is-standing-requires : tie.Need-is-standing-requires
@@ -24,7 +30,7 @@ is-standing-requires c κs = search needs
 
 -- src/lib.rt:94:9
 returns : tie.Need-returns
-returns c = ?
+returns c = extent-none _ _ _ (sym (c .before .is-standing .ensures) ∙ not-true _ (c .if1 .taken))
 
 -- src/lib.rt:98:34
 line-of-requires : tie.Need-line-of-requires
@@ -36,7 +42,9 @@ line-size-requires c κs = search needs
 
 -- src/lib.rt:89:1
 returns-2 : tie.Need-returns-2
-returns-2 c = ?
+returns-2 c =
+    extent-one _ _ _ (sym (c .before .before .before .is-standing .ensures) ∙ not-false _ (c .before .before .if1 .left))
+    (c .line-size .ensures ∙ ap (λ (l : Line). sizeOfAll (lineFields l)) (c .before .line-of .ensures) ∙ entry-sized _)
 
 pub measure-at-spec : {M : Type 1} → statement M
 measure-at-spec =

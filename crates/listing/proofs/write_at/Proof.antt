@@ -17,6 +17,8 @@ use Rattle.listing.proofs.write_at.Lts as lts
 use Rattle.listing.proofs.is_standing.Reads as is-standing-reads
 use Rattle.listing.proofs.line_of.Reads as line-of-reads
 use Rattle.notice.proofs.write_line.Reads as write-line-reads
+use borrow.Author.Tests.{not-true, not-false}
+use Rattle.listing.proofs.Turns.{writes-none, line-written, up-to, some-room, small-enough}
 
 -- src/lib.rt:109:9
 is-standing-requires : tie.Need-is-standing-requires
@@ -24,7 +26,7 @@ is-standing-requires c κs = search needs
 
 -- src/lib.rt:110:9
 returns : tie.Need-returns
-returns c = ?
+returns c = writes-none _ _ _ _ _ (sym (c .before .is-standing .ensures) ∙ not-true _ (c .if1 .taken))
 
 -- src/lib.rt:112:41
 line-of-requires : tie.Need-line-of-requires
@@ -52,7 +54,10 @@ same-length c = search needs
 
 -- src/lib.rt:103:1
 returns-2 : tie.Need-returns-2
-returns-2 c = ?
+returns-2 c =
+    let w = line-written _ _ _ _ _ (sym (c .before .before .before .before .before .before .before .before .before .is-standing .ensures) ∙ not-false _ (c .before .before .before .before .before .before .before .before .if1 .left)) (c .before .before .before .before .before .before .before .before .before .before .before .before .pre .1)
+    (c .before .before .before .before .before .before .line-of .ensures) (c .before .before .before .before .before .write-line .ensures .0) (c .before .before .before .before .before .write-line .ensures .1) in
+    (up-to (w .0) (c .before .end .given .1), w .1)
 
 -- src/lib.rt:103:1
 same-length-2 : tie.Need-same-length-2
@@ -60,7 +65,11 @@ same-length-2 c = search needs
 
 -- src/lib.rt:103:1
 returns-3 : tie.Need-returns-3
-returns-3 c = ?
+returns-3 c =
+    let a = c .before .before .before .before .before .before .before .before .before .before .before .args in
+    let w = line-written _ _ _ (a .out .now) _ (sym (c .before .before .before .before .before .before .before .before .is-standing .ensures) ∙ not-false _ (c .before .before .before .before .before .before .before .if1 .left)) (c .before .before .before .before .before .before .before .before .before .before .before .pre .1)
+    (c .before .before .before .before .before .line-of .ensures) (c .before .before .before .before .write-line .ensures .0) (c .before .before .before .before .write-line .ensures .1) in
+    some-room (w .0) (c .enum-told .given .1)
 
 -- src/lib.rt:103:1
 same-length-3 : tie.Need-same-length-3
@@ -68,7 +77,11 @@ same-length-3 c = search needs
 
 -- src/lib.rt:103:1
 returns-4 : tie.Need-returns-4
-returns-4 c = ?
+returns-4 c =
+    let a = c .before .before .before .before .before .before .before .before .before .before .before .args in
+    let w = line-written _ _ _ (a .out .now) _ (sym (c .before .before .before .before .before .before .before .before .is-standing .ensures) ∙ not-false _ (c .before .before .before .before .before .before .before .if1 .left)) (c .before .before .before .before .before .before .before .before .before .before .before .pre .1)
+    (c .before .before .before .before .before .line-of .ensures) (c .before .before .before .before .write-line .ensures .0) (c .before .before .before .before .write-line .ensures .1) in
+    small-enough (w .0) (c .enum-told2 .given .1)
 
 pub write-at-spec : {M : Type 1} → statement M
 write-at-spec =
