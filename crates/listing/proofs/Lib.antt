@@ -3,3 +3,4 @@ pub mod Passing
 pub mod Sizes
 pub mod Turns
 pub mod ReadsBack
+pub mod Answering

@@ -1,7 +1,7 @@
 -- The standing list of a sound book is a valid notice, so what is written reads back as a full notice of its day with exactly its
 -- lines (demand 2's last clause). Assumes nothing.
 use mathlib.Core.Path.{_≡_, refl, ap, sym, _∙_}
-use mathlib.Core.Bool.{Bool, true, false, false≢true}
+use mathlib.Core.Bool.{Bool, true, false, not, _&&_, false≢true}
 use mathlib.Core.List.{List, [], _∷_, _++_}
 use mathlib.Core.Logic.{inl}
 use Prim.Native.Nat.{ℕ, suc, _*_, _≤_, _<_}
@@ -10,8 +10,9 @@ use borrow.Author.Tests.{leb-true, eqb-true, eqb-false, not-true, leb-false}
 use lib.Dec.{eqb, leb}
 use lib.ListN.{length}
 use Rattle.dial_code.specs.Code.{isCodeKey}
-use Rattle.dial_code.proofs.Tests.{both}
+use Rattle.dial_code.proofs.Tests.{both, and-left-true, positive}
 use Rattle.dial_code.proofs.CodeLaws.{no-first-digit}
+use Rattle.rate.specs.Time.{lastReceivedDay}
 use Rattle.notice.specs.NoticeRule.{notice, readNotice}
 use Rattle.notice.specs.Layout.{encodeNotice}
 use Rattle.notice.specs.declared.Line.{Line}
@@ -36,9 +37,9 @@ use Rattle.listing.proofs.Turns.{few}
 stands-facts : (e : Entry) (es : List Entry) (day : ℕ) → stands e es day ≡ true → (e .day ≤ day) × (isReplaced e es day ≡ false)
 unfolding stands
 stands-facts e es day h =
-    let a = both _ _ h in
-    let b = both _ _ (a .1) in
-    (leb-true (e .day) day (a .0), not-true _ (b .1))
+    let a = both (leb (e .day) day) _ h in
+    let b = both (not (eqb (e .offer) 0)) (not (isReplaced e es day)) (a .1) in
+    (leb-true (e .day) day (a .0), not-true (isReplaced e es day) (b .1))
 
 entry-valid : (e : Entry) (b : ℕ) → Allowed e → b < e .key → ValidLine 0 b 0 (entryLine e)
 unfolding entryLine
@@ -69,7 +70,7 @@ module _ (day : ℕ) where
           → Before (f .key) (f .day) (e .key) day
       go (next k n) t q u p = smaller k
       go (same k d n) true q false p = earlier (sym k) (leb-false _ _ p)
-      go (same k d n) true q true p = absurd (false≢true (sym r ∙ ?z))
+      go (same k d n) true q true p = absurd (false≢true (sym r ∙ and-left-true _ q ∙ p))
       go (same k d n) false q u p = absurd (eqb-false _ _ q (sym k))
 
   ahead-on : (b : ℕ) (e : Entry) (es : List Entry) → SoundFrom (e .key) (suc (e .day)) (e .offer) es
@@ -81,10 +82,10 @@ module _ (day : ℕ) where
   step : (e : Entry) (es : List Entry) (b : ℕ) → Allowed e → SoundFrom (e .key) (suc (e .day)) (e .offer) es
       → Before (e .key) (e .day) b day → (t : Bool) → stands e es day ≡ t
       → ((c : ℕ) → Ahead c es → ValidFrom 0 c 0 (passed es day)) → ValidFrom 0 b 0 (addedBy e es day ++ passed es day)
-  unfolding ValidFrom
+  unfolding ValidFrom entryLine
   step e es b l s a true q on =
       let f = stands-facts e es day q in
-      rw (adds-one e es day q) (entry-valid e b l (larger a (f .0)), ?on)
+      rw (adds-one e es day q) (entry-valid e b l (larger a (f .0)), on (e .key) (ahead-own e es s (f .1)))
     where
       larger : Before (e .key) (e .day) b day → e .day ≤ day → b < e .key
       larger (smaller h) d = h
@@ -98,3 +99,41 @@ module _ (day : ℕ) where
   passed-valid k n o b (e ∷ es) s a =
       step e es b (s .1) (s .2) a (stands e es day) refl
       (λ c h. passed-valid (e .key) (suc (e .day)) (e .offer) c es (s .2) h)
+
+first-ahead : (es : List Entry) (day : ℕ) → Sound es → Ahead day 0 es
+unfolding SoundFrom Ahead
+first-ahead [] day s = tt
+first-ahead (e ∷ es) day s =
+    smaller (positive (λ z. false≢true (sym (no-first-digit (e .key) (omega arith)) ∙ s .1 .code)))
+
+-- The standing list of a sound book, of a day on which it can be received and on which something stands, is a valid notice.
+module _ (ws : List ℕ) (day : ℕ) (s : sound ws ≡ true) where
+  lines-valid : ValidFrom 0 0 0 (standingLines (entriesOf ws) day)
+  lines-valid =
+      let e = entries-sound ws s in
+      rw (in-one-pass (entriesOf ws) day e) (passed-valid day 0 0 0 0 (entriesOf ws) e (first-ahead (entriesOf ws) day e))
+
+  pub list-valid : day ≤ lastReceivedDay → 0 < length (standingLines (entriesOf ws) day) → Valid (standingNotice (entriesOf ws) day)
+  unfolding standingNotice
+  list-valid d n =
+      record {
+        kind-least = omega arith;
+        kind-most = omega arith;
+        received-most = d;
+        unnamed = λ k. refl;
+        named = λ k. absurd (omega arith);
+        some-lines = n;
+        few-lines = few ws day s .0;
+        lines-valid = lines-valid;
+      }
+
+some-line : (ls : List Line) → (ls ≡ [] → ⊥) → 0 < length ls
+some-line [] n = absurd (n refl)
+some-line (l ∷ ls) n = omega arith
+
+-- What is written reads back as a full notice of that day with exactly those lines.
+pub list-reads-back : (ws : List ℕ) (day : ℕ) → bookRefusal ws ≡ 0 → day ≤ lastReceivedDay
+    → (standingLines (entriesOf ws) day ≡ [] → ⊥)
+    → readNotice (encodeNotice (standingNotice (entriesOf ws) day)) ≡ notice (standingNotice (entriesOf ws) day)
+list-reads-back ws day b d n =
+    notice-back (standingNotice (entriesOf ws) day) (list-valid ws day (usable-sound ws b) d (some-line _ n))

@@ -69,7 +69,7 @@ fields-few Closed = omega arith
 fields-few Blocked = omega arith
 fields-few (Open r first next) = omega arith
 
-bytes-few : (ns : List ℕ) → length (encodeAll ns) ≤ 9 * length ns
+pub bytes-few : (ns : List ℕ) → length (encodeAll ns) ≤ 9 * length ns
 bytes-few [] = omega (arith, ap length bytes-nil)
 bytes-few (n ∷ ns) = omega (arith, length-bytes-cons n ns, size n, bytes-few ns)
 
