@@ -1,15 +1,15 @@
 -- The answer and the bytes of a list by the tests of the code, and its length. Assumes nothing.
 use mathlib.Core.Path.{_≡_, refl, ap, ap₂, sym, _∙_}
 use mathlib.Core.Bool.{Bool, true, false, cond}
-use mathlib.Core.List.{List, [], _∷_, _++_}
+use mathlib.Core.List.{List, _++_}
 use Prim.Native.Nat.{ℕ, _+_, _*_, _≤_, _<_}
 use native.Mathlib.Omega.{arith}
 use borrow.Author.Tests.{eq-eqb, ne-eqb, eqb-true, eqb-false, le-leb, lt-leb, leb-true}
 use lib.Dec.{eqb, leb}
-use lib.ListN.{length, drop, length-append}
+use lib.ListN.{length, length-append}
 use lib.Seq.{sets, sets-eq, length-sets}
 use Rattle.refusal.specs.Refusal.{bufferTooShort, timeOutOfRange, noOffer}
-use Rattle.varint.specs.Several.{encodeAll, sizeOfAll, answerAll, leavesAll}
+use Rattle.varint.specs.Several.{sizeOfAll, answerAll, leavesAll}
 use Rattle.varint.specs.declared.Written.{Written}
 use Rattle.varint.specs.declared.Written.the-variants.{UpTo}
 use Rattle.varint.proofs.Several.{sets-append}

@@ -6,7 +6,6 @@ use Prim.Native.Nat.{ℕ, suc, _≤_, _<_}
 use native.Mathlib.Omega.{arith}
 use borrow.Author.Tests.{eq-eqb, ne-eqb, eqb-true, eqb-false, leb-true, leb-false, lt-ltb, le-ltb}
 use lib.Dec.{eqb, leb, ltb}
-use lib.ListN.{length}
 use Rattle.dial_code.proofs.Tests.{and-left-true, and-left-false, and-right-true, and-right-false}
 use Rattle.rate.specs.OfferWord.{offerOf, wordOf}
 use Rattle.rate.specs.declared.Offer.{Offer}
@@ -14,14 +13,12 @@ use Rattle.rate.specs.declared.Offer.the-variants.{Closed, Blocked, Open}
 use Rattle.rate.specs.declared.Stored.{Stored}
 use Rattle.rate.specs.declared.Stored.the-variants.{Holds, Invalid}
 use Rattle.rate.proofs.Words.{only-word}
-use Rattle.notice.specs.LineRule.{lineOf}
 use Rattle.notice.specs.declared.Line.{Line}
 use Rattle.book.specs.Soundness.{isHeld, isOfferWord}
 use Rattle.book.specs.Status.{statusFrom, statusIn, heldOffer, offerIn, isStanding}
 use Rattle.book.specs.declared.Entry.{Entry}
-use Rattle.book.proofs.Rows.{entryIn}
 use Rattle.book.proofs.SoundLists.{After, same, next, Allowed, SoundFrom, Sound, after-key}
-use Rattle.book.proofs.Statuses.{Before, smaller, begins-later}
+use Rattle.book.proofs.Statuses.{smaller, begins-later}
 use Rattle.listing.specs.List.{codesOf, lineFor, linesFor, standingLines}
 use Rattle.listing.specs.Pass.{isReplaced, stands, entryLine, addedBy}
 

@@ -1,12 +1,13 @@
--- What a standing list's bytes read as (demand 2's last clause): a full notice of its day with exactly its lines. Assumes nothing.
-use mathlib.Core.Path.{_≡_, refl, ap, ap₂, sym, _∙_}
+-- What a standing list's bytes read as (demand 2's last clause): a full notice of its day with exactly its lines.
+-- Assumes nothing.
+use mathlib.Core.Path.{_≡_, refl, ap, _∙_}
 use mathlib.Core.Bool.{Bool, true, false, cond}
-use mathlib.Core.List.{List, [], _∷_, _++_}
+use mathlib.Core.List.{List, [], _∷_}
 use Prim.Native.Nat.{ℕ, _≤_, _<_}
 use native.Mathlib.Omega.{arith}
 use borrow.Author.Tests.{eqb-true, leb-true, eq-eqb}
 use lib.Dec.{eqb}
-use lib.ListN.{length, take, drop}
+use lib.ListN.{length, take}
 use lib.Seq.{take-append-seam}
 use Rattle.rate.specs.Time.{lastReceivedDay}
 use Rattle.rate.specs.declared.Day.{Day}
@@ -18,7 +19,6 @@ use Rattle.book.specs.Layout.{entriesOf}
 use Rattle.book.specs.Answers.{bookRefusal}
 use Rattle.book.proofs.Lookups.{usable-sound}
 use Rattle.listing.specs.List.{standingLines, standingNotice, listOf, listRefusal, listed, listAnswer, listBytes}
-use Rattle.listing.specs.declared.Listed.{Listed}
 use Rattle.listing.proofs.Validity.{list-valid}
 use Rattle.listing.proofs.Answering.{accepted}
 

@@ -1,9 +1,9 @@
 -- The line of any entry has an encoding, of at most 72 bytes; so what the entries add takes few lines and few bytes.
 -- Assumes nothing.
 use mathlib.Core.Path.{_≡_, refl, ap, sym, _∙_}
-use mathlib.Core.Bool.{Bool, true, false, cond}
+use mathlib.Core.Bool.{Bool, true, false}
 use mathlib.Core.List.{List, [], _∷_, _++_, append-nil}
-use Prim.Native.Nat.{ℕ, _+_, _*_, _^_, _≤_, _<_}
+use Prim.Native.Nat.{ℕ, _*_, _^_, _≤_, _<_}
 use native.Mathlib.Nat.{pow-le-pow-right}
 use native.Mathlib.Omega.{arith}
 use lib.Dec.{lit<}
@@ -12,10 +12,9 @@ use Rattle.varint.specs.Several.{encodeAll, encodableAll, sizeOfAll}
 use Rattle.varint.proofs.Laws.{size}
 use Rattle.varint.proofs.Several.{all-nil, all-sized, bytes-nil, length-bytes-cons}
 use Rattle.dial_code.specs.Digits.{value}
-use Rattle.dial_code.specs.Key.{keysEnd, digitsOfKey, placesOf}
+use Rattle.dial_code.specs.Key.{keysEnd, placesOf}
 use Rattle.dial_code.specs.Code.{codeOf}
-use Rattle.dial_code.specs.declared.Code.{Code}
-use Rattle.dial_code.proofs.Tests.{Order, below, equal, above, order}
+use Rattle.dial_code.proofs.Tests.{below, equal, above, order}
 use Rattle.dial_code.proofs.DigitLaws.{value-below}
 use Rattle.dial_code.proofs.CountryLaws.{all-places}
 use Rattle.dial_code.proofs.CodeLaws.{length-places, digits-places}

@@ -1,7 +1,7 @@
 -- The standing list of a sound book is a valid notice: its keys rise and are those of allowed codes, its offers are in range, it
 -- lists no days, and it has 1 to 65,535 lines. Assumes nothing.
-use mathlib.Core.Path.{_≡_, refl, ap, sym, _∙_}
-use mathlib.Core.Bool.{Bool, true, false, not, _&&_, false≢true}
+use mathlib.Core.Path.{_≡_, refl, sym, _∙_}
+use mathlib.Core.Bool.{Bool, true, false, not, false≢true}
 use mathlib.Core.List.{List, [], _∷_, _++_}
 use mathlib.Core.Logic.{inl}
 use Prim.Native.Nat.{ℕ, suc, _≤_, _<_}
@@ -9,7 +9,6 @@ use native.Mathlib.Omega.{arith}
 use borrow.Author.Tests.{leb-true, eqb-false, not-true, leb-false}
 use lib.Dec.{eqb, leb}
 use lib.ListN.{length}
-use Rattle.dial_code.specs.Code.{isCodeKey}
 use Rattle.dial_code.proofs.Tests.{both, and-left-true, positive}
 use Rattle.dial_code.proofs.CodeLaws.{no-first-digit}
 use Rattle.rate.specs.Time.{lastReceivedDay}

@@ -1,9 +1,9 @@
 -- The standing list of a day (document 01, "Charging and writing"): a full notice received on that day, with each open or
 -- blocked code, rates with 8 decimals, no listed days.
 use mathlib.Core.Path.{_≡_, refl}
-use mathlib.Core.Bool.{Bool, cond}
-use mathlib.Core.List.{List, [], _∷_, _++_, map}
-use Prim.Native.Nat.{ℕ, _-_}
+use mathlib.Core.Bool.{cond}
+use mathlib.Core.List.{List, [], _∷_, _++_}
+use Prim.Native.Nat.{ℕ}
 use lib.Dec.{eqb, leb}
 use lib.ListN.{length, drop, replicate}
 use Rattle.refusal.specs.Refusal.{bufferTooShort, timeOutOfRange, noOffer}
@@ -14,12 +14,12 @@ use Rattle.rate.specs.Price.{rate}
 use Rattle.rate.specs.OfferWord.{offerOf}
 use Rattle.rate.specs.declared.Day.{Day}
 use Rattle.rate.specs.declared.Offer.{Offer}
-use Rattle.rate.specs.declared.Offer.the-variants.{Closed, Blocked, Open}
+use Rattle.rate.specs.declared.Offer.the-variants.{Blocked, Open}
 use Rattle.notice.specs.LineRule.{lineOf}
 use Rattle.notice.specs.NoticeRule.{full, Notice}
 use Rattle.notice.specs.Layout.{encodeNotice}
 use Rattle.notice.specs.declared.Line.{Line}
-use Rattle.book.specs.Layout.{entry, entriesOf}
+use Rattle.book.specs.Layout.{entriesOf}
 use Rattle.book.specs.Status.{offerIn, isStanding}
 use Rattle.book.specs.Answers.{bookRefusal}
 use Rattle.book.specs.declared.Entry.{Entry}

@@ -32,7 +32,10 @@ struct Extent {
 fn refused(e: u64) -> Listed
     ensures { λ r. ⌜ r ≡ listed e 0 ⌝ }
 {
-    Listed { refusal: e, length: 0 }
+    Listed {
+        refusal: e,
+        length: 0,
+    }
 }
 
 fn entry_at(words: &[u64], at: usize) -> Entry
@@ -100,7 +103,15 @@ fn measure_at(words: &[u64], at: usize, left: usize, e: Entry, day: u64) -> Exte
 }
 
 // Writes what an entry adds to the list at a place of the lent bytes, and gives the place after it.
-fn write_at(words: &[u64], at: usize, left: usize, e: Entry, day: u64, out: &mut [u8], from: usize) -> usize
+fn write_at(
+    words: &[u64],
+    at: usize,
+    left: usize,
+    e: Entry,
+    day: u64,
+    out: &mut [u8],
+    from: usize,
+) -> usize
     requires { ⌜ at + left * entryWords ≤ length (now words) ⌝ }
     requires { ⌜ from + length (encodeLines (addedBy e (entriesFrom (now words) at left) day)) ≤ length (now out) ⌝ }
     ensures { λ r. ⌜ r ≡ from + length (encodeLines (addedBy e (entriesFrom (now (words .entry)) at left) day)) ⌝ }
