@@ -1,9 +1,10 @@
--- Demand 2, as far as notices go, stated again in full: what is written by the layout reads back. Assumes nothing.
+-- Demand 2 stated again in full: what is written by the layout reads back, a standing list as the same lines; each row of a batch
+-- is its call rated by itself, and counts and total are those of the rows. Assumes nothing.
 use mathlib.Core.Path.{_≡_}
 use mathlib.Core.Bool.{true}
-use mathlib.Core.List.{List, _++_}
-use Prim.Native.Nat.{ℕ, _≤_, _<_}
-use lib.ListN.{length}
+use mathlib.Core.List.{List, [], _∷_, _++_, map}
+use Prim.Native.Nat.{ℕ, _*_, _≤_, _<_}
+use lib.ListN.{length, take, drop}
 use Rattle.dial_code.specs.Key.{codeKey}
 use Rattle.dial_code.specs.Code.{isCodeKey, codeOf}
 use Rattle.dial_code.specs.declared.Keyed.the-variants.{Key}
@@ -17,6 +18,17 @@ use Rattle.notice.proofs.LineLaws.{ValidLine}
 use Rattle.notice.proofs.LineBack as back
 use Rattle.notice.proofs.NoticeLaws as laws
 use Rattle.notice.proofs.NoticeBack as backs
+use Rattle.dial_code.specs.Digits.{isWritten}
+use Rattle.rate.specs.Time.{lastReceivedDay}
+use Rattle.rate.specs.declared.Day.{Day}
+use Rattle.book.specs.Layout.{entriesOf}
+use Rattle.book.specs.Answers.{bookRefusal}
+use Rattle.rating.specs.Call.{rateCall}
+use Rattle.rating.specs.Batch.{rowWords, dialledAs, rowOf, callWords, rowsOf}
+use Rattle.rating.specs.declared.CallRecord.{CallRecord}
+use Rattle.rating.proofs.BatchLaws as batches
+use Rattle.listing.specs.List.{standingLines, standingNotice, listAnswer, listBytes}
+use Rattle.listing.proofs.ReadsBack as lists
 
 -- A line's bytes read as the line, whatever follows them.
 pub line-back :
@@ -40,3 +52,37 @@ notice-refusals = laws.notice-refusals
 -- The count and value of an allowed code's key are sent back to the key.
 pub key-sent : (w : ℕ) → isCodeKey w ≡ true → codeKey (codeOf w .count) (codeOf w .value) ≡ Key w
 key-sent = codes.key-sent
+
+-- A standing list reads back as a full notice of its day with exactly its lines.
+pub list-reads-back :
+    (ws : List ℕ) (day : ℕ)
+    → bookRefusal ws ≡ 0
+    → day ≤ lastReceivedDay
+    → (standingLines (entriesOf ws) day ≡ [] → ⊥)
+    → readNotice (encodeNotice (standingNotice (entriesOf ws) day)) ≡ notice (standingNotice (entriesOf ws) day)
+list-reads-back = lists.list-reads-back
+
+-- So do the bytes that writing it leaves, up to the length that it gives.
+pub written-list-reads-back :
+    (ws : List ℕ) (day : Day) (out : List ℕ)
+    → listAnswer ws day (length out) .refusal ≡ 0
+    → readNotice (take (listAnswer ws day (length out) .length) (listBytes ws day out))
+    ≡ notice (standingNotice (entriesOf ws) (day .0))
+written-list-reads-back = lists.written-reads-back
+
+-- A batch is rated, with counts and total those of its rows, or stopped, with no word changed.
+pub batch-outcome : (ws s rows : List ℕ) → batches.Outcome ws s rows
+batch-outcome = batches.outcome
+
+-- A call's row is the call rated by itself, and stands in its own stretch of the rows.
+pub row-alone :
+    (ws : List ℕ) (c : CallRecord)
+    → isWritten (c .count) (c .value) ≡ true
+    → rowOf ws c ≡ rateCall ws (dialledAs (c .count) (c .value)) (record { 0 = c .moment }) (c .duration)
+row-alone = batches.row-alone
+
+pub row-in :
+    (ws : List ℕ) (before : List CallRecord) (c : CallRecord) (after : List CallRecord) (others : List ℕ)
+    → take rowWords (drop (length before * rowWords) (rowsOf (map (rowOf ws) (before ++ (c ∷ after))) ++ others))
+    ≡ callWords (rowOf ws c)
+row-in = batches.row-in
