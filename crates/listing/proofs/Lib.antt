@@ -5,3 +5,4 @@ pub mod Turns
 pub mod Validity
 pub mod Answering
 pub mod ReadsBack
+pub mod Relisting
