@@ -8,21 +8,35 @@ use native.Mathlib.Omega.{arith}
 use borrow.Author.Tests.{eq-eqb, ne-eqb, eqb-true, eqb-false}
 use lib.Dec.{eqb, leb}
 use lib.ListN.{length}
-use Rattle.rate.specs.Time.{lastDay}
+use Rattle.rate.specs.Time.{lastDay, lastReceivedDay}
 use Rattle.rate.specs.OfferWord.{offerOf, wordOf, inRange}
 use Rattle.rate.specs.declared.Offer.{Offer}
 use Rattle.rate.specs.declared.Offer.the-variants.{Closed, Blocked, Open}
+use Rattle.rate.proofs.Words.{closed-word}
 use Rattle.notice.specs.LineRule.{lineOf}
 use Rattle.notice.specs.NoticeRule.{Notice, replacement}
+use Rattle.notice.specs.Layout.{encodeNotice}
 use Rattle.notice.specs.declared.Line.{Line}
-use Rattle.book.specs.Layout.{entry}
+use Rattle.notice.proofs.LinesLaws.{ValidFrom}
+use Rattle.book.specs.Layout.{entry, entriesOf}
+use Rattle.book.specs.Answers.{bookRefusal}
 use Rattle.book.specs.Status.{statusFrom, statusIn, heldOffer, offerIn, isStanding}
 use Rattle.book.specs.declared.Entry.{Entry}
-use Rattle.book.proofs.Statuses.{other-key}
+use Rattle.book.proofs.Rows.{entryIn}
+use Rattle.book.proofs.SoundLists.{next, SoundFrom, Sound, to-sound}
+use Rattle.book.proofs.Statuses.{Before, smaller, other-key, begins-later, starts-closed}
+use Rattle.book.proofs.Unique.{unique}
+use Rattle.book.proofs.Lookups.{usable-sound}
 use Rattle.history.specs.Effect.{Known, Listing, listed, unlisted, lineFor, effective, outOfSequence, isIncrease, noticed, wanted, closes, closing}
 use Rattle.history.specs.Effect.{listedChange, changeOf, changed, from}
-use Rattle.history.specs.Machine.{unknown, known}
+use Rattle.history.specs.ChangeDays.{changeDays}
+use Rattle.history.specs.Machine.{unknown, known, words}
+use Rattle.history.proofs.ChangeLaws.{status-back, changes-are-sound}
+use Rattle.history.proofs.Keeping.{Standing, closed-in-range, keeps, good}
+use Rattle.history.proofs.Books.{is-word, admissible}
 use Rattle.listing.specs.List.{codesOf, codeLine, linesFor, standingLines, standingNotice}
+use Rattle.listing.proofs.Validity.{lines-valid}
+use Rattle.listing.proofs.ReadsBack.{list-reads-back}
 
 -- A key that is none of some.
 Missing : ℕ → List ℕ → Type 0
@@ -92,6 +106,10 @@ not-standing Closed h = refl
 not-standing Blocked h = absurd (false≢true (sym h))
 not-standing (Open r x y) h = absurd (false≢true (sym h))
 
+either : (t : Bool) → cond t Closed Closed ≡ Closed
+either true = refl
+either false = refl
+
 -- what a line offers, and closed where there is none
 abbrev pub listedOffer : Listing → Offer
 listedOffer (listed l) = l .offer
@@ -139,13 +157,6 @@ module _ (es : List Entry) (day : ℕ) where
   unfolding known changeOf closes standingNotice
   status-after k d = go (own-line k)
     where
-      n : Notice
-      n = standingNotice es day
-
-      either : (t : Bool) → cond t Closed Closed ≡ Closed
-      either true = refl
-      either false = refl
-
       go : {r : Listing} → Own k r → changed (listedChange 0 unknown (standingNotice es day) k r) d Closed ≡ cond (leb day d) (offerIn es k day) Closed
       go (stands q) =
           ap (λ (r : Listing). changed (listedChange 0 unknown (standingNotice es day) k r) d Closed) q
@@ -160,3 +171,99 @@ unfoldable pub entriesOn : ℕ → List Line → List Entry
 unfolding wordOf
 entriesOn day [] = []
 entriesOn day (l ∷ ls) = entry (l .key) day (wordOf (l .offer)) ∷ entriesOn day ls
+
+length-on : (day : ℕ) (ls : List Line) → length (entriesOn day ls) ≡ length ls
+unfolding entriesOn
+length-on day [] = refl
+length-on day (l ∷ ls) = ap suc (length-on day ls)
+
+-- the lines of codes are open or blocked
+AllStand : List Line → Type 0
+AllStand [] = Unit {0}
+AllStand (l ∷ ls) = (isStanding (l .offer) ≡ true) × AllStand ls
+
+lines-stand : (f : ℕ → Offer) (ks : List ℕ) → AllStand (linesFor f ks)
+unfolding AllStand linesFor
+lines-stand f [] = tt
+lines-stand f (k ∷ ks) = go (isStanding (f k)) refl (lines-stand f ks)
+  where
+    go : (t : Bool) → isStanding (f k) ≡ t → AllStand (linesFor f ks) → AllStand (cond t (lineOf k (f k) 0 ∷ []) [] ++ linesFor f ks)
+    go true q r = (q, r)
+    go false q r = r
+
+module _ (day : ℕ) where
+  -- Valid lines make sound entries.
+  on-sound : (b n o last : ℕ) (ls : List Line) → day ≤ lastDay → ValidFrom 0 b last ls → AllStand ls → SoundFrom b n o (entriesOn day ls)
+  unfolding ValidFrom AllStand SoundFrom entriesOn
+  on-sound b n o last [] h v a = tt
+  on-sound b n o last (l ∷ ls) h v a = (
+    next (v .0 .rises) (λ z. false≢true (sym (ap isStanding (closed-word (l .offer) .0 z)) ∙ a .0)),
+    record { code = v .0 .allowed; day-most = h; offer-word = is-word (l .offer) (v .0 .in-range) },
+    on-sound (l .key) (suc day) (wordOf (l .offer)) (l .listed) ls h (v .1) (a .1),
+  )
+
+  -- Those of larger keys change nothing.
+  on-later : (k n o last w x d : ℕ) (ls : List Line) → ValidFrom 0 k last ls → SoundFrom k n o (entriesOn day ls) → x ≡ k
+      → statusFrom w (entriesOn day ls) x d ≡ w
+  unfolding ValidFrom entriesOn statusFrom
+  on-later k n o last w x d [] v s q = refl
+  on-later k n o last w x d (l ∷ ls) v s q =
+      begins-later k n o w (entriesOn day (l ∷ ls)) x d s (λ h. smaller (omega (arith, v .0 .rises)))
+
+  word-on : (t : Bool) (o : Offer) → cond t (wordOf o) 0 ≡ wordOf (cond t o Closed)
+  unfolding wordOf
+  word-on true o = refl
+  word-on false o = refl
+
+  -- the status that they give
+  on-status : (b n o last x d : ℕ) (ls : List Line) → ValidFrom 0 b last ls → SoundFrom b n o (entriesOn day ls)
+      → statusFrom 0 (entriesOn day ls) x d ≡ wordOf (cond (leb day d) (listedOffer (lineFor x ls)) Closed)
+  unfolding ValidFrom SoundFrom entriesOn lineFor statusFrom wordOf
+  on-status b n o last x d [] v s = sym (ap wordOf (either (leb day d)))
+  on-status b n o last x d (l ∷ ls) v s =
+      go (eqb (l .key) x) refl (on-status (l .key) (suc day) (wordOf (l .offer)) (l .listed) x d ls (v .1) (s .2))
+    where
+      go : (t : Bool) → eqb (l .key) x ≡ t
+          → statusFrom 0 (entriesOn day ls) x d ≡ wordOf (cond (leb day d) (listedOffer (lineFor x ls)) Closed)
+          → statusFrom (cond (t && leb day d) (wordOf (l .offer)) 0) (entriesOn day ls) x d
+          ≡ wordOf (cond (leb day d) (listedOffer (cond t (listed l) (lineFor x ls))) Closed)
+      go true q r =
+          on-later (l .key) (suc day) (wordOf (l .offer)) (l .listed) (cond (leb day d) (wordOf (l .offer)) 0) x d ls (v .1) (s .2)
+          (sym (eqb-true (l .key) x q))
+          ∙ word-on (leb day d) (l .offer)
+      go false q r = r
+
+-- The change days of a machine that has taken only the standing list of a sound book: its lines, on its day.
+module _ (ws : List ℕ) (day : ℕ) (b : bookRefusal ws ≡ 0) (r : day ≤ lastReceivedDay) (some : standingLines (entriesOf ws) day ≡ [] → ⊥) where
+  es : List Entry
+  es = entriesOf ws
+
+  after : Known
+  after = known 0 (standingNotice es day ∷ [])
+
+  valid : ValidFrom 0 0 0 (standingLines es day)
+  unfolding es
+  valid = lines-valid ws day (usable-sound ws b)
+
+  stands-after : Standing after
+  unfolding es after known
+  stands-after =
+      keeps 0 (omega arith) unknown (standingNotice es day)
+      (good (encodeNotice (standingNotice es day)) (standingNotice es day) (list-reads-back ws day b r some))
+      (record { offers = λ x d. closed-in-range; closed = λ x d q. refl; last = λ x d h. refl; latest = omega arith })
+
+  sound-on : Sound (entriesOn day (standingLines es day))
+  unfolding es standingLines
+  sound-on = on-sound day 0 0 0 0 (standingLines es day) (omega arith) valid (lines-stand (λ k. offerIn es k day) (codesOf es))
+
+  pub changes-after : changeDays (words (known 0 (standingNotice (entriesOf ws) day ∷ []))) ≡ entriesOn day (standingLines (entriesOf ws) day)
+  unfolding es after
+  changes-after =
+      let a = admissible after stands-after in
+      unique (changeDays (words after)) (entriesOn day (standingLines es day))
+      (to-sound (changeDays (words after)) (changes-are-sound (words after) a))
+      sound-on
+      (λ x d.
+      status-back (words after) a x d
+      ∙ ap wordOf (status-after es day x d ∙ ap (λ (o : Offer). cond (leb day d) o Closed) (sym (own-offer es day x)))
+      ∙ sym (starts-closed (entriesOn day (standingLines es day)) x d ∙ on-status day 0 0 0 0 x d (standingLines es day) valid sound-on))
