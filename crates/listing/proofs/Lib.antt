@@ -6,3 +6,4 @@ pub mod Validity
 pub mod Answering
 pub mod ReadsBack
 pub mod Relisting
+pub mod Relisted

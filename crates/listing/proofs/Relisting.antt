@@ -172,7 +172,7 @@ unfolding wordOf
 entriesOn day [] = []
 entriesOn day (l ∷ ls) = entry (l .key) day (wordOf (l .offer)) ∷ entriesOn day ls
 
-length-on : (day : ℕ) (ls : List Line) → length (entriesOn day ls) ≡ length ls
+pub length-on : (day : ℕ) (ls : List Line) → length (entriesOn day ls) ≡ length ls
 unfolding entriesOn
 length-on day [] = refl
 length-on day (l ∷ ls) = ap suc (length-on day ls)
