@@ -128,7 +128,8 @@ module _ (day : ℕ) where
       v : ℕ
       v = cond (eqb k (e .key)) w 0
 
-      begun : (t : Bool) → eqb k (e .key) ≡ t → codeLine (e .key) (offerAt (cond t w 0)) ≡ cond (t && true) (codeLine k (offerAt w)) []
+      begun : (t : Bool) → eqb k (e .key) ≡ t
+          → codeLine (e .key) (offerAt (cond t w 0)) ≡ cond (t && true) (codeLine k (offerAt w)) []
       begun true q = ap (λ (x : ℕ). codeLine x (offerAt w)) (sym (eqb-true k (e .key) q))
       begun false q = closed-line (e .key)
 
@@ -146,7 +147,9 @@ module _ (day : ℕ) where
           ∙ sym (ap (λ (x : List Line). x ++ addedBy e es day) (none (leb-true _ _ q)))
       go true q (gone g r z) =
           g (e .offer)
-          ∙ sym (ap (λ (x : Bool). cond x (entryLine e ∷ []) []) (and-left-true _ q ∙ and-right-false (not (eqb (e .offer) 0)) (ap not r)))
+          ∙ sym
+          (ap (λ (x : Bool). cond x (entryLine e ∷ []) [])
+          (and-left-true _ q ∙ and-right-false (not (eqb (e .offer) 0)) (ap not r)))
           ∙ sym (ap (λ (x : List Line). x ++ addedBy e es day) (none z))
       go false q (kept g r) =
           g v ∙ begun (eqb k (e .key)) refl
@@ -189,18 +192,20 @@ module _ (day : ℕ) where
         ∙ ap (λ (ls : List Line). ls ++ passed es day) (ap (given e es) own ∙ here k n o (before k) e es a l (next? e es s))
         ∙ append-assoc (pending k (before k) (e ∷ es)) (addedBy e es day) (passed es day)
       where
+        at-test : {t : Bool} → nextSame e es ≡ t
+            → cond t (pending (e .key) (after (e .key)) es) (codeLine (e .key) (offerAt (after (e .key)))) ≡ given e es (after (e .key))
+        at-test q = ap (λ (t : Bool). cond t (pending (e .key) (after (e .key)) es) (codeLine (e .key) (offerAt (after (e .key))))) (sym q)
+
         go : (t : Bool) → nextSame e es ≡ t
             → linesFor status (cond t (codesOf es) (e .key ∷ codesOf es)) ≡ given e es (after (e .key)) ++ passed es day
         go true q =
             on
-            ∙ ap (λ (t : Bool). cond t (pending (e .key) (after (e .key)) es) (codeLine (e .key) (offerAt (after (e .key)))) ++ passed es day)
-            (sym q)
+            ∙ ap (λ (ls : List Line). ls ++ passed es day) (at-test q)
         go false q =
             ap (λ (w : ℕ). codeLine (e .key) (offerAt w) ++ linesFor status (codesOf es)) (ends e es (after (e .key)) s q)
             ∙ ap (λ (ls : List Line). codeLine (e .key) (offerAt (after (e .key))) ++ ls)
             (on ∙ ap (λ (ls : List Line). ls ++ passed es day) (none-same e es (after (e .key)) q))
-            ∙ ap (λ (t : Bool). cond t (pending (e .key) (after (e .key)) es) (codeLine (e .key) (offerAt (after (e .key)))) ++ passed es day)
-            (sym q)
+            ∙ ap (λ (ls : List Line). ls ++ passed es day) (at-test q)
 
   -- After key k, with the statuses so far `before` and none of a larger key: what the rule gives for the codes of some entries is
   -- what is pending and what the pass adds.
@@ -210,7 +215,8 @@ module _ (day : ℕ) where
   passes k n o before [] s z = refl
   passes k n o before (e ∷ es) s z =
       step k n o before z e es (s .0) (s .1) (s .2)
-      (passes (e .key) (suc (e .day)) (e .offer) (after k n o before z e es (s .0)) es (s .2) (none-larger k n o before z e es (s .0)))
+      (passes (e .key) (suc (e .day)) (e .offer) (after k n o before z e es (s .0)) es (s .2)
+      (none-larger k n o before z e es (s .0)))
 
 -- The lines of the standing list of sound entries are what the entries add.
 pub in-one-pass : (es : List Entry) (day : ℕ) → Sound es → standingLines es day ≡ passed es day

@@ -7,7 +7,7 @@ use mathlib.Core.List.{List, [], _∷_, map}
 use Prim.Native.Nat.{ℕ, zero, suc, _≤_}
 use native.Mathlib.Omega.{arith}
 use borrow.Author.Tests.{eq-eqb, le-leb}
-use lib.Dec.{eqb, leb}
+use lib.Dec.{leb}
 use lib.ListN.{length}
 use Rattle.dial_code.specs.Digits.{digitOf}
 use Rattle.rate.specs.Time.{isDay, lastReceivedDay}
@@ -19,8 +19,6 @@ use Rattle.notice.specs.Layout.{encodeNotice}
 use Rattle.book.specs.Layout.{headerWords, held, entriesOf}
 use Rattle.book.specs.Status.{offerIn, answer, longest, matched}
 use Rattle.book.specs.Answers.{freshRefusal, freshBook, bookRefusal, isDialled, lookup}
-use Rattle.book.specs.declared.Answer.{Answer}
-use Rattle.book.specs.declared.Lookup.{Lookup}
 use Rattle.book.specs.declared.Lookup.the-variants.{Found}
 use Rattle.book.proofs.Lookups.{answered}
 use Rattle.history.specs.ChangeDays.{changeDays}
@@ -65,15 +63,22 @@ module _
     reads = list-reads-back ws (day .0) b r some
 
     -- The list is accepted.
-    pub relisted-accepted : applyRefusal (freshBook start 0) (encodeNotice (standingNotice (entriesOf ws) (day .0))) (length new) ≡ 0
+    pub relisted-accepted :
+        applyRefusal (freshBook start 0) (encodeNotice (standingNotice (entriesOf ws) (day .0))) (length new) ≡ 0
     unfolding list
     relisted-accepted =
-        taken-exactly (freshBook start 0) 0 [] (fresh-linked start 0 f) (encodeNotice list) (length new) .1
-        (list,
-        four,
-        reads,
-        omega arith,
-        omega (arith, ap length (changes-after ws (day .0) b r some), length-on (day .0) (standingLines (entriesOf ws) (day .0)), fits))
+        taken-exactly (freshBook start 0) 0 [] (fresh-linked start 0 f) (encodeNotice list) (length new) .1 (
+          list,
+          four,
+          reads,
+          omega arith,
+          omega (
+            arith,
+            ap length (changes-after ws (day .0) b r some),
+            length-on (day .0) (standingLines (entriesOf ws) (day .0)),
+            fits,
+          ),
+        )
 
     list-apply : Apply
     list-apply = record { bytes = encodeNotice list; new = new }
@@ -113,7 +118,8 @@ module _
         ap (λ (w : List ℕ). lookup w number d) (sym left-is)
         ∙ claim start 0 f (list-apply ∷ []) .lookups number d i h
         ∙ ap (λ (ns : List Notice). Found (answerOf 0 ns (map digitOf number) (d .0))) taken-is
-        ∙ ap (λ (s : ℕ → Offer). Found (matched s (map digitOf number))) (fun-ext (λ k. status-after (entriesOf ws) (day .0) k (d .0)))
+        ∙ ap (λ (s : ℕ → Offer). Found (matched s (map digitOf number)))
+        (fun-ext (λ k. status-after (entriesOf ws) (day .0) k (d .0)))
         ∙ go (leb (day .0) (d .0))
       where
         go : (t : Bool) → Found (matched (λ k. cond t (offerIn (entriesOf ws) k (day .0)) Closed) (map digitOf number))

@@ -1,20 +1,20 @@
--- What a standing list gives the plain machine as its only notice, with no notice period: each code's offer of the list's day, from
--- that day on. Assumes nothing.
+-- What a standing list gives the plain machine as its only notice, with no notice period: each code's offer of the list's day,
+-- from that day on. Assumes nothing.
 use mathlib.Core.Path.{_≡_, refl, ap, sym, _∙_}
 use mathlib.Core.Bool.{Bool, true, false, cond, _&&_, _||_, false≢true}
 use mathlib.Core.List.{List, [], _∷_, _++_}
-use Prim.Native.Nat.{ℕ, suc, _+_, _-_, _≤_, _<_}
+use Prim.Native.Nat.{ℕ, suc, _≤_}
 use native.Mathlib.Omega.{arith}
-use borrow.Author.Tests.{eq-eqb, ne-eqb, eqb-true, eqb-false}
+use borrow.Author.Tests.{eqb-true, eqb-false}
 use lib.Dec.{eqb, leb}
 use lib.ListN.{length}
 use Rattle.rate.specs.Time.{lastDay, lastReceivedDay}
-use Rattle.rate.specs.OfferWord.{offerOf, wordOf, inRange}
+use Rattle.rate.specs.OfferWord.{offerOf, wordOf}
 use Rattle.rate.specs.declared.Offer.{Offer}
 use Rattle.rate.specs.declared.Offer.the-variants.{Closed, Blocked, Open}
 use Rattle.rate.proofs.Words.{closed-word}
 use Rattle.notice.specs.LineRule.{lineOf}
-use Rattle.notice.specs.NoticeRule.{Notice, replacement}
+use Rattle.notice.specs.NoticeRule.{replacement}
 use Rattle.notice.specs.Layout.{encodeNotice}
 use Rattle.notice.specs.declared.Line.{Line}
 use Rattle.notice.proofs.LinesLaws.{ValidFrom}
@@ -22,19 +22,19 @@ use Rattle.book.specs.Layout.{entry, entriesOf}
 use Rattle.book.specs.Answers.{bookRefusal}
 use Rattle.book.specs.Status.{statusFrom, statusIn, heldOffer, offerIn, isStanding}
 use Rattle.book.specs.declared.Entry.{Entry}
-use Rattle.book.proofs.Rows.{entryIn}
 use Rattle.book.proofs.SoundLists.{next, SoundFrom, Sound, to-sound}
-use Rattle.book.proofs.Statuses.{Before, smaller, other-key, begins-later, starts-closed}
+use Rattle.book.proofs.Statuses.{smaller, other-key, begins-later, starts-closed}
 use Rattle.book.proofs.Unique.{unique}
 use Rattle.book.proofs.Lookups.{usable-sound}
-use Rattle.history.specs.Effect.{Known, Listing, listed, unlisted, lineFor, effective, outOfSequence, isIncrease, noticed, wanted, closes, closing}
-use Rattle.history.specs.Effect.{listedChange, changeOf, changed, from}
+use Rattle.history.specs.Effect.{Known, Listing, listed, unlisted, lineFor, effective, outOfSequence, isIncrease}
+use Rattle.history.specs.Effect.{noticed, wanted, closes, closing}
+use Rattle.history.specs.Effect.{listedChange, changeOf, changed}
 use Rattle.history.specs.ChangeDays.{changeDays}
 use Rattle.history.specs.Machine.{unknown, known, words}
 use Rattle.history.proofs.ChangeLaws.{status-back, changes-are-sound}
 use Rattle.history.proofs.Keeping.{Standing, closed-in-range, keeps, good}
 use Rattle.history.proofs.Books.{is-word, admissible}
-use Rattle.listing.specs.List.{codesOf, codeLine, linesFor, standingLines, standingNotice}
+use Rattle.listing.specs.List.{codesOf, linesFor, standingLines, standingNotice}
 use Rattle.listing.proofs.Validity.{lines-valid}
 use Rattle.listing.proofs.ReadsBack.{list-reads-back}
 
@@ -96,7 +96,9 @@ find f k (x ∷ xs) = go (isStanding (f x)) refl (eqb x k) refl (find f k xs)
         → eqb x k ≡ u
         → Found f k xs (lineFor k (linesFor f xs))
         → Found f k (x ∷ xs) (lineFor k (cond t (lineOf x (f x) 0 ∷ []) [] ++ linesFor f xs))
-    go true c true q r = there (ap (λ (t : Bool). cond t (listed (lineOf x (f x) 0)) (lineFor k (linesFor f xs))) q ∙ same (eqb-true x k q))
+    go true c true q r =
+        there
+        (ap (λ (t : Bool). cond t (listed (lineOf x (f x) 0)) (lineFor k (linesFor f xs))) q ∙ same (eqb-true x k q))
     go true c false q r = rw q (skip (eqb-false x k q) r)
     go false c true q r = own (ap (λ (y : ℕ). isStanding (f y)) (sym (eqb-true x k q)) ∙ c) r
     go false c false q r = skip (eqb-false x k q) r
@@ -157,7 +159,8 @@ module _ (es : List Entry) (day : ℕ) where
   unfolding known changeOf closes standingNotice
   status-after k d = go (own-line k)
     where
-      go : {r : Listing} → Own k r → changed (listedChange 0 unknown (standingNotice es day) k r) d Closed ≡ cond (leb day d) (offerIn es k day) Closed
+      go : {r : Listing} → Own k r
+          → changed (listedChange 0 unknown (standingNotice es day) k r) d Closed ≡ cond (leb day d) (offerIn es k day) Closed
       go (stands q) =
           ap (λ (r : Listing). changed (listedChange 0 unknown (standingNotice es day) k r) d Closed) q
           ∙ ap (λ (x : ℕ). cond (leb x d) (offerIn es k day) Closed) (on-day (lineOf k (offerIn es k day) 0) refl)
@@ -187,13 +190,15 @@ unfolding AllStand linesFor
 lines-stand f [] = tt
 lines-stand f (k ∷ ks) = go (isStanding (f k)) refl (lines-stand f ks)
   where
-    go : (t : Bool) → isStanding (f k) ≡ t → AllStand (linesFor f ks) → AllStand (cond t (lineOf k (f k) 0 ∷ []) [] ++ linesFor f ks)
+    go : (t : Bool) → isStanding (f k) ≡ t → AllStand (linesFor f ks)
+        → AllStand (cond t (lineOf k (f k) 0 ∷ []) [] ++ linesFor f ks)
     go true q r = (q, r)
     go false q r = r
 
 module _ (day : ℕ) where
   -- Valid lines make sound entries.
-  on-sound : (b n o last : ℕ) (ls : List Line) → day ≤ lastDay → ValidFrom 0 b last ls → AllStand ls → SoundFrom b n o (entriesOn day ls)
+  on-sound : (b n o last : ℕ) (ls : List Line) → day ≤ lastDay → ValidFrom 0 b last ls → AllStand ls
+      → SoundFrom b n o (entriesOn day ls)
   unfolding ValidFrom AllStand SoundFrom entriesOn
   on-sound b n o last [] h v a = tt
   on-sound b n o last (l ∷ ls) h v a = (
@@ -234,7 +239,8 @@ module _ (day : ℕ) where
       go false q r = r
 
 -- The change days of a machine that has taken only the standing list of a sound book: its lines, on its day.
-module _ (ws : List ℕ) (day : ℕ) (b : bookRefusal ws ≡ 0) (r : day ≤ lastReceivedDay) (some : standingLines (entriesOf ws) day ≡ [] → ⊥) where
+module _ (ws : List ℕ) (day : ℕ) (b : bookRefusal ws ≡ 0) (r : day ≤ lastReceivedDay)
+    (some : standingLines (entriesOf ws) day ≡ [] → ⊥) where
   es : List Entry
   es = entriesOf ws
 
@@ -256,7 +262,9 @@ module _ (ws : List ℕ) (day : ℕ) (b : bookRefusal ws ≡ 0) (r : day ≤ las
   unfolding es standingLines
   sound-on = on-sound day 0 0 0 0 (standingLines es day) (omega arith) valid (lines-stand (λ k. offerIn es k day) (codesOf es))
 
-  pub changes-after : changeDays (words (known 0 (standingNotice (entriesOf ws) day ∷ []))) ≡ entriesOn day (standingLines (entriesOf ws) day)
+  pub changes-after :
+      changeDays (words (known 0 (standingNotice (entriesOf ws) day ∷ [])))
+      ≡ entriesOn day (standingLines (entriesOf ws) day)
   unfolding es after
   changes-after =
       let a = admissible after stands-after in
@@ -266,4 +274,6 @@ module _ (ws : List ℕ) (day : ℕ) (b : bookRefusal ws ≡ 0) (r : day ≤ las
       (λ x d.
       status-back (words after) a x d
       ∙ ap wordOf (status-after es day x d ∙ ap (λ (o : Offer). cond (leb day d) o Closed) (sym (own-offer es day x)))
-      ∙ sym (starts-closed (entriesOn day (standingLines es day)) x d ∙ on-status day 0 0 0 0 x d (standingLines es day) valid sound-on))
+      ∙ sym
+      (starts-closed (entriesOn day (standingLines es day)) x d
+      ∙ on-status day 0 0 0 0 x d (standingLines es day) valid sound-on))
