@@ -25,7 +25,7 @@ use Rattle.book.specs.Answers.{bookRefusal}
 use Rattle.book.specs.declared.Entry.{Entry}
 use Rattle.listing.specs.declared.Listed.{Listed}
 
--- The keys of a book's codes in the order of its entries, each once: that of an entry whose successor has another.
+-- The keys of a book's codes in the order of its entries, each once: that of an entry whose successor has another or is none.
 unfoldable pub codesOf : List Entry → List ℕ
 codesOf [] = []
 codesOf (e ∷ []) = e .key ∷ []
