@@ -1,9 +1,10 @@
 -- Demand 2 stated again in full: what is written by the layout reads back, a standing list as the same lines; each row of a batch
 -- is its call rated by itself, and counts and total are those of the rows. Assumes nothing.
 use mathlib.Core.Path.{_≡_}
-use mathlib.Core.Bool.{true}
+use mathlib.Core.Bool.{true, cond}
 use mathlib.Core.List.{List, [], _∷_, _++_, map}
 use Prim.Native.Nat.{ℕ, _*_, _≤_, _<_}
+use lib.Dec.{leb}
 use lib.ListN.{length, take, drop}
 use Rattle.dial_code.specs.Key.{codeKey}
 use Rattle.dial_code.specs.Code.{isCodeKey, codeOf}
@@ -18,17 +19,22 @@ use Rattle.notice.proofs.LineLaws.{ValidLine}
 use Rattle.notice.proofs.LineBack as back
 use Rattle.notice.proofs.NoticeLaws as laws
 use Rattle.notice.proofs.NoticeBack as backs
-use Rattle.dial_code.specs.Digits.{isWritten}
-use Rattle.rate.specs.Time.{lastReceivedDay}
+use Rattle.dial_code.specs.Digits.{isWritten, isDialled}
+use Rattle.rate.specs.Time.{lastReceivedDay, isDay}
 use Rattle.rate.specs.declared.Day.{Day}
-use Rattle.book.specs.Layout.{entriesOf}
-use Rattle.book.specs.Answers.{bookRefusal}
+use Rattle.rate.specs.declared.Offer.the-variants.{Closed}
+use Rattle.book.specs.Layout.{headerWords, held, entriesOf}
+use Rattle.book.specs.Status.{answer}
+use Rattle.book.specs.Answers.{freshRefusal, freshBook, bookRefusal, lookup}
+use Rattle.book.specs.declared.Lookup.the-variants.{Found}
+use Rattle.history.specs.Applying.{applyRefusal, applied}
 use Rattle.rating.specs.Call.{rateCall}
 use Rattle.rating.specs.Batch.{rowWords, dialledAs, rowOf, callWords, rowsOf}
 use Rattle.rating.specs.declared.CallRecord.{CallRecord}
 use Rattle.rating.proofs.BatchLaws as batches
 use Rattle.listing.specs.List.{standingLines, standingNotice, listAnswer, listBytes}
 use Rattle.listing.proofs.ReadsBack as lists
+use Rattle.listing.proofs.Relisted as relisted
 
 -- A line's bytes read as the line, whatever follows them.
 pub line-back :
@@ -86,3 +92,27 @@ pub row-in :
     → take rowWords (drop (length before * rowWords) (rowsOf (map (rowOf ws) (before ++ (c ∷ after))) ++ others))
     ≡ callWords (rowOf ws c)
 row-in = batches.row-in
+
+-- A list of a day d on which something stands, applied to a fresh book of notice period 0 with room for its lines, is accepted, and
+-- every lookup in the book left gives, from day d on, what the listed book gave on day d, and nothing before it. What was pending
+-- after day d is not in the list.
+pub list-applied :
+    (ws : List ℕ) (day : Day)
+    → bookRefusal ws ≡ 0
+    → day .0 ≤ lastReceivedDay
+    → (standingLines (entriesOf ws) (day .0) ≡ [] → ⊥)
+    → (start : ℕ)
+    → freshRefusal start 0 ≡ 0
+    → (new : List ℕ)
+    → headerWords ≤ length new
+    → length (standingLines (entriesOf ws) (day .0)) ≤ held (length new)
+    → (applyRefusal (freshBook start 0) (encodeNotice (standingNotice (entriesOf ws) (day .0))) (length new) ≡ 0)
+    × ((number : List ℕ) (d : Day)
+    → isDialled number ≡ true
+    → isDay d ≡ true
+    → lookup (applied (freshBook start 0) (encodeNotice (standingNotice (entriesOf ws) (day .0))) new) number d
+    ≡ cond (leb (day .0) (d .0)) (lookup ws number day) (Found (answer 0 Closed)))
+list-applied ws day b r some start f new four fits = (
+  relisted.relisted-accepted ws day b r some start f new four fits,
+  relisted.relisted-lookups ws day b r some start f new four fits,
+)

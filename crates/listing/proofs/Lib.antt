@@ -5,3 +5,5 @@ pub mod Turns
 pub mod Validity
 pub mod Answering
 pub mod ReadsBack
+pub mod Relisting
+pub mod Relisted

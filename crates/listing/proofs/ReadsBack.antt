@@ -33,7 +33,7 @@ pub list-reads-back : (ws : List ℕ) (day : ℕ) → bookRefusal ws ≡ 0 → d
 list-reads-back ws day b d n =
     notice-back (standingNotice (entriesOf ws) day) (list-valid ws day (usable-sound ws b) d (some-line _ n))
 
--- What write_list leaves: where it refuses nothing, its first `length` bytes read as that notice.
+-- What write_list leaves: where it refuses nothing, its first `length` bytes are the list's, and read as that notice.
 module _ (ws : List ℕ) (day : Day) (out : List ℕ) (q : listAnswer ws day (length out) .refusal ≡ 0) where
   not-refused : listRefusal ws day (length out) ≡ 0
   unfolding listAnswer
@@ -45,7 +45,7 @@ module _ (ws : List ℕ) (day : Day) (out : List ℕ) (q : listAnswer ws day (le
       go true e h = eqb-true _ 0 e
       go false e h = h
 
-  first-bytes : take (listAnswer ws day (length out) .length) (listBytes ws day out) ≡ listOf ws day
+  pub first-bytes : take (listAnswer ws day (length out) .length) (listBytes ws day out) ≡ listOf ws day
   unfolding listAnswer listBytes
   first-bytes = rw (eq-eqb _ 0 not-refused) (take-append-seam (listOf ws day) _)
 

@@ -73,7 +73,8 @@ bytes-few [] = omega (arith, ap length bytes-nil)
 bytes-few (n ∷ ns) = omega (arith, length-bytes-cons n ns, size n, bytes-few ns)
 
 module _ (e : Entry) where
-  line-is : lineFields (entryLine e) ≡ codeOf (e .key) .count ∷ codeOf (e .key) .value ∷ offerFields (offerAt (e .offer)) ++ (0 ∷ [])
+  line-is : lineFields (entryLine e)
+      ≡ codeOf (e .key) .count ∷ codeOf (e .key) .value ∷ offerFields (offerAt (e .offer)) ++ (0 ∷ [])
   unfolding entryLine
   line-is = line-opens (entryLine e)
 
@@ -120,7 +121,8 @@ module _ (e : Entry) (es : List Entry) (day : ℕ) where
       go false q = rw (adds-none q, lines-nil) (omega arith)
 
 -- The pass adds at most one line an entry, of at most 72 bytes.
-pub passed-few : (es : List Entry) (day : ℕ) → (length (passed es day) ≤ length es) × (length (encodeLines (passed es day)) ≤ 72 * length es)
+pub passed-few : (es : List Entry) (day : ℕ)
+    → (length (passed es day) ≤ length es) × (length (encodeLines (passed es day)) ≤ 72 * length es)
 unfolding passed
 passed-few [] day = rw lines-nil (omega arith)
 passed-few (e ∷ es) day =

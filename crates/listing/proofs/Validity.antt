@@ -101,7 +101,7 @@ first-ahead (e ∷ es) day s =
 
 -- The standing list of a sound book, of a day on which it can be received and on which something stands, is a valid notice.
 module _ (ws : List ℕ) (day : ℕ) (s : sound ws ≡ true) where
-  lines-valid : ValidFrom 0 0 0 (standingLines (entriesOf ws) day)
+  pub lines-valid : ValidFrom 0 0 0 (standingLines (entriesOf ws) day)
   lines-valid =
       let e = entries-sound ws s in
       rw (in-one-pass (entriesOf ws) day e) (passed-valid day 0 0 0 0 (entriesOf ws) e (first-ahead (entriesOf ws) day e))

@@ -25,20 +25,20 @@ use Rattle.book.specs.Answers.{bookRefusal}
 use Rattle.book.specs.declared.Entry.{Entry}
 use Rattle.listing.specs.declared.Listed.{Listed}
 
--- The keys of a book's codes in the order of its entries, each once: that of an entry whose successor has another.
+-- The keys of a book's codes in the order of its entries, each once: that of an entry whose successor has another or is none.
 unfoldable pub codesOf : List Entry → List ℕ
 codesOf [] = []
 codesOf (e ∷ []) = e .key ∷ []
 codesOf (e ∷ f ∷ es) = cond (eqb (e .key) (f .key)) (codesOf (f ∷ es)) (e .key ∷ codesOf (f ∷ es))
 
 -- The line of a code with a status, which has no listed day: none where the status is closed.
-abbrev pub lineFor : ℕ → Offer → List Line
-lineFor k o = cond (isStanding o) (lineOf k o 0 ∷ []) []
+abbrev pub codeLine : ℕ → Offer → List Line
+codeLine k o = cond (isStanding o) (lineOf k o 0 ∷ []) []
 
 -- The lines of some codes, from the statuses of codes.
 unfoldable pub linesFor : (ℕ → Offer) → List ℕ → List Line
 linesFor status [] = []
-linesFor status (k ∷ ks) = lineFor k (status k) ++ linesFor status ks
+linesFor status (k ∷ ks) = codeLine k (status k) ++ linesFor status ks
 
 -- A line for each code that is open or blocked on a day.
 unfoldable pub standingLines : List Entry → ℕ → List Line

@@ -115,7 +115,8 @@ fn write_at(
     requires { ⌜ at + left * entryWords ≤ length (now words) ⌝ }
     requires { ⌜ from + length (encodeLines (addedBy e (entriesFrom (now words) at left) day)) ≤ length (now out) ⌝ }
     ensures { λ r. ⌜ r ≡ from + length (encodeLines (addedBy e (entriesFrom (now (words .entry)) at left) day)) ⌝ }
-    ensures { λ _. ⌜ now (out .exit) ≡ sets (now (out .entry)) from (encodeLines (addedBy e (entriesFrom (now (words .entry)) at left) day)) ⌝ }
+    ensures { λ _. ⌜ now (out .exit) ≡ sets (now (out .entry)) from
+        (encodeLines (addedBy e (entriesFrom (now (words .entry)) at left) day)) ⌝ }
 {
     if !is_standing(words, at, left, e, day) {
         return from;
@@ -151,7 +152,8 @@ fn measure(words: &[u64], day: u64) -> Extent
 fn write_lines(words: &[u64], day: u64, out: &mut [u8], from: usize)
     requires { ⌜ sound (now words) ≡ true ⌝ }
     requires { ⌜ from + length (encodeLines (standingLines (entriesOf (now words)) day)) ≤ length (now out) ⌝ }
-    ensures { λ _. ⌜ now (out .exit) ≡ sets (now (out .entry)) from (encodeLines (standingLines (entriesOf (now (words .entry))) day)) ⌝ }
+    ensures { λ _. ⌜ now (out .exit) ≡ sets (now (out .entry)) from
+        (encodeLines (standingLines (entriesOf (now (words .entry))) day)) ⌝ }
 {
     let mut end = from;
     let mut at = book::HEADER_WORDS;

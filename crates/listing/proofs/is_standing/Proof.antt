@@ -34,9 +34,10 @@ returns-4 c =
 returns-5 : tie.Need-returns-5
 returns-5 c =
     let d = c .before .before .before .before in
+    let q = row _ _ _ (positive (d .before .if3 .left)) (d .entry-at .ensures) in
     sym
     (unless-replaced _ _ _ (d .before .before .before .before .if1 .left) (d .before .before .if2 .left)
-    ∙ same-next _ _ _ (d .entry-at .result) _ (row _ _ _ (positive (d .before .if3 .left)) (d .entry-at .ensures)) (c .before .if4 .left))
+    ∙ same-next _ _ _ (d .entry-at .result) _ q (c .before .if4 .left))
 
 pub is-standing-spec : {M : Type 1} → statement M
 is-standing-spec =

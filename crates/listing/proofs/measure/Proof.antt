@@ -17,15 +17,27 @@ use Rattle.listing.proofs.Turns.{measured, none-left, whole, few}
 use Rattle.listing.specs.Pass.{extentOf}
 use Rattle.notice.specs.declared.Line.{Line}
 use Rattle.notice.proofs.LayoutLaws.{lines-nil}
+use Prim.Native.Nat.{_-_}
 
 abbrev Inv-loop : tie.InvT-loop
 Inv-loop words day lines₀ bytes₀ at₀ left₀ lines bytes at left =
     (at + left * entryWords ≤ length words)
     × (lines + length (passed (entriesFrom words at left) day) ≡ length (standingLines (entriesOf words) day))
-    × (bytes + length (encodeLines (passed (entriesFrom words at left) day)) ≡ length (encodeLines (standingLines (entriesOf words) day)))
+    × (bytes + length (encodeLines (passed (entriesFrom words at left) day))
+    ≡ length (encodeLines (standingLines (entriesOf words) day)))
 
 abbrev μ-loop : tie.MeasureT-loop
 μ-loop words day lines₀ bytes₀ at₀ left₀ lines bytes at left = left
+
+-- what an entry adds, and what the entries after it add
+at-turn : (c : tie.After-measure-at Inv-loop μ-loop) →
+    let l = c .before .before .before .loop in
+    let a = c .before .before .before .before .before .before .args in
+    let rest = entriesFrom (a .words .now) (l .at + entryWords) (l .left - 1) in
+    let all = passed (entriesFrom (a .words .now) (l .at) (l .left)) (a .day) in
+    (length all ≡ c .measure-at .result .lines + length (passed rest (a .day)))
+    × (length (encodeLines all) ≡ c .measure-at .result .bytes + length (encodeLines (passed rest (a .day))))
+at-turn c = measured _ _ _ (c .before .before .loop-test .taken) _ (c .before .entry-at .ensures) (c .measure-at .ensures)
 
 shared-slice-read-left : tie.Need-shared-slice-read-left Inv-loop μ-loop
 shared-slice-read-left c = omega (arith, sound-book _ (c .before .before .pre) .four)
@@ -50,32 +62,20 @@ measure-at-requires c κs = search needs
 
 add-lines : tie.Need-add-lines Inv-loop μ-loop
 add-lines c =
-    let l = c .before .before .before .before .loop in
-    let a = c .before .before .before .before .before .before .before .args in
-    omega (
-      arith,
-      measured (a .words .now) (l .at) (l .left) (c .before .before .before .loop-test .taken) (a .day) (c .before .before .entry-at .ensures) (c .before .measure-at .ensures) .0,
-      few (a .words .now) (a .day) (c .before .before .before .before .before .before .before .pre) .0,
-    )
+    let p = c .before .before .before .before .before .before .before in
+    omega (arith, at-turn (c .before) .0, few _ (p .args .day) (p .pre) .0)
 
 add-bytes : tie.Need-add-bytes Inv-loop μ-loop
 add-bytes c =
-    let l = c .before .before .before .before .before .loop in
-    let a = c .before .before .before .before .before .before .before .before .args in
-    omega (
-      arith,
-      measured (a .words .now) (l .at) (l .left) (c .before .before .before .before .loop-test .taken) (a .day) (c .before .before .before .entry-at .ensures) (c .before .before .measure-at .ensures) .1,
-      few (a .words .now) (a .day) (c .before .before .before .before .before .before .before .before .pre) .1,
-    )
+    let p = c .before .before .before .before .before .before .before .before in
+    omega (arith, at-turn (c .before .before) .1, few _ (p .args .day) (p .pre) .1)
 
 loop-less : tie.Need-loop-less Inv-loop μ-loop
 loop-less c = search needs
 
 loop-again : tie.Need-loop-again Inv-loop μ-loop
 loop-again c =
-    let l = c .before .before .before .before .before .loop in
-    let a = c .before .before .before .before .before .before .before .before .args in
-    let m = measured (a .words .now) (l .at) (l .left) (c .before .before .before .before .loop-test .taken) (a .day) (c .before .before .before .entry-at .ensures) (c .before .before .measure-at .ensures) in
+    let m = at-turn (c .before .before) in
     (omega arith, omega (arith, m .0), omega (arith, m .1))
 
 returns : tie.Need-returns Inv-loop μ-loop

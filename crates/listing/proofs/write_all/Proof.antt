@@ -38,8 +38,10 @@ enum-known-at c = search needs
 write-lines-requires : tie.Need-write-lines-requires
 write-lines-requires c κs =
     let p = c .before .before .before .before .before .before .before .before .before .before .pre in
-    let w = started (c .before .before .before .before .before .before) in
-    (p .0 .0, lines-fit _ _ (p .0 .0) (p .0 .1) (some-line (c .before .before .before .before .before .before)) _ (p .1 .1) (up-to (w .0) (c .before .before .at .given .1)) (w .1))
+    let d = c .before .before .before .before .before .before in
+    let w = started d in
+    let at = up-to (w .0) (c .before .before .at .given .1) in
+    (p .0 .0, lines-fit _ _ (p .0 .0) (p .0 .1) (some-line d) _ (p .1 .1) at (w .1))
 
 enum-told : tie.Need-enum-told
 enum-told c = search needs
@@ -53,8 +55,10 @@ same-length c = search needs
 returns : tie.Need-returns
 returns c =
     let p = c .before .before .before .before .before .before .before .before .before .before .before .before .before .pre in
-    let w = started (c .before .before .before .before .before .before .before .before .before) in
-    all-written _ _ (p .0 .0) (p .0 .1) (some-line (c .before .before .before .before .before .before .before .before .before)) _ (p .1 .1) (up-to (w .0) (c .before .before .before .before .before .at .given .1)) (w .1)
+    let d = c .before .before .before .before .before .before .before .before .before in
+    let w = started d in
+    let at = up-to (w .0) (c .before .before .before .before .before .at .given .1) in
+    all-written _ _ (p .0 .0) (p .0 .1) (some-line d) _ (p .1 .1) at (w .1)
     (c .before .before .write-lines .ensures)
 
 same-length-2 : tie.Need-same-length-2

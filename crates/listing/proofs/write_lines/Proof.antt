@@ -54,9 +54,9 @@ sub-left c = search needs
 
 write-at-requires : tie.Need-write-at-requires Inv-loop μ-loop
 write-at-requires c κs =
-    let l = c .before .before .before .loop in
-    let a = c .before .before .before .before .before .before .before .args in
-    (omega arith, omega (arith, length-row (a .words .now) (l .at) (l .left) (c .before .before .loop-test .taken) (a .day) (c .before .entry-at .ensures)))
+    let day = c .before .before .before .before .before .before .before .args .day in
+    let n = length-row _ _ _ (c .before .before .loop-test .taken) day (c .before .entry-at .ensures) in
+    (omega arith, omega (arith, n))
 
 loop-less : tie.Need-loop-less Inv-loop μ-loop
 loop-less c = search needs
@@ -68,10 +68,10 @@ loop-again c =
     let h = c .before .before .before .before .before .loop-test .taken in
     let e = c .before .before .before .before .entry-at .ensures in
     let w = c .before .before .write-at .ensures in
-    let p = puts (a .words .now) (l .at) (l .left) h (a .day) e (l .out) (l .end) (c .before .before .write-at .result) (w .1) (w .0) (l .inv .3) in (
+    let p = puts (a .words .now) (l .at) (l .left) h (a .day) e (l .out) (l .end) _ (w .1) (w .0) (l .inv .3) in (
       omega arith,
       p .0 ∙ l .inv .1,
-      omega (arith, length-row (a .words .now) (l .at) (l .left) h (a .day) e, w .0, l .inv .2),
+      omega (arith, length-row _ _ _ h (a .day) e, w .0, l .inv .2),
       p .1,
     )
 
