@@ -13,11 +13,9 @@ use lib.Seq.{sets, sets-eq}
 use Rattle.refusal.specs.Refusal.{periodTooLong, bookTooShort}
 use Rattle.book.specs.Layout.{headerWords, mostPeriod, entriesOf}
 use Rattle.book.specs.Soundness.{sound}
-use Rattle.book.specs.Status.{statusIn}
 use Rattle.book.specs.Answers.{freshRefusal, freshBook, freshWords}
-use Rattle.book.specs.declared.Entry.{Entry}
 use Rattle.book.proofs.Rules.{no-entries}
-use Rattle.book.proofs.BookWords.{book-length, entries-back, sound-back}
+use Rattle.book.proofs.BookWords.{entries-back, sound-back}
 
 -- The refusal by the tests of the code.
 module _ (len period : ℕ) where
@@ -83,10 +81,6 @@ module _ (len period : ℕ) (e : freshRefusal len period ≡ 0) where
       go true p false q z = (leb-true period mostPeriod p, ltb-false len headerWords q)
       go false p u q z = absurd (omega arith)
 
-  pub fresh-length : length (freshBook len period) ≡ len
-  unfolding freshBook
-  fresh-length = book-length len period 0 0 [] (accepted .1) (omega arith)
-
   pub fresh-sound : sound (freshBook len period) ≡ true
   unfolding freshBook
   fresh-sound =
@@ -96,15 +90,3 @@ module _ (len period : ℕ) (e : freshRefusal len period ≡ 0) where
 pub fresh-entries : (len period : ℕ) → entriesOf (freshBook len period) ≡ []
 unfolding freshBook
 fresh-entries len period = entries-back len period 0 0 []
-
-pub fresh-closed : (len period x d : ℕ) → statusIn (entriesOf (freshBook len period)) x d ≡ 0
-unfolding statusIn
-fresh-closed len period x d = ap (λ (es : List Entry). statusIn es x d) (fresh-entries len period)
-
--- These are the words that a call leaves that is not refused.
-pub fresh-left :
-    (ws : List ℕ) (period : ℕ)
-    → freshRefusal (length ws) period ≡ 0
-    → freshWords ws period ≡ freshBook (length ws) period
-unfolding freshWords
-fresh-left ws period e = rw e

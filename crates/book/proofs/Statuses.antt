@@ -178,9 +178,6 @@ module _ (es : List Entry) (x d : ℕ) (s : Sound es) where
   unfolding isOfferWord offerOf
   status-is-word = ap isOfferWord (starts-closed es x d) ∙ status-word 0 0 0 0 es x d s refl
 
-  pub status-stays : lastDay ≤ d → statusIn es x d ≡ statusIn es x lastDay
-  status-stays h = starts-closed es x d ∙ stays 0 0 0 0 es x d s h ∙ sym (starts-closed es x lastDay)
-
   pub offer-held : offerOf (statusIn es x d) ≡ Holds (offerIn es x d)
   unfolding offerIn isOfferWord
   offer-held = go (offerOf (statusIn es x d)) status-is-word

@@ -1,12 +1,9 @@
 -- What a sound book gives stands, and a new book gives what is known after its notice.
 -- Assumes nothing.
 use mathlib.Core.Path.{_≡_, refl, ap, sym, _∙_, fun-ext}
-use mathlib.Core.Bool.{Bool, true, false, cond, true≢false}
-use mathlib.Core.List.{List, [], _∷_}
-use Prim.Native.Nat.{ℕ, zero, suc, _≤_, _<_}
-use native.Mathlib.Omega.{arith}
-use lib.ListN.{length}
-use Rattle.dial_code.specs.Code.{isCodeKey}
+use mathlib.Core.Bool.{true}
+use mathlib.Core.List.{List}
+use Prim.Native.Nat.{ℕ}
 use Rattle.rate.specs.OfferWord.{inRange, wordOf, offerOf}
 use Rattle.rate.specs.declared.Offer.{Offer}
 use Rattle.rate.specs.declared.Offer.the-variants.{Closed}
@@ -14,15 +11,15 @@ use Rattle.rate.specs.declared.Stored.{Stored}
 use Rattle.rate.specs.declared.Stored.the-variants.{Holds, Invalid}
 use Rattle.rate.proofs.Words.{reads-back, only-word, closed-word}
 use Rattle.notice.specs.NoticeRule.{Notice}
-use Rattle.book.specs.Layout.{held, entriesOf, bookOf, periodOf, latestOf}
+use Rattle.book.specs.Layout.{entriesOf, bookOf, periodOf}
 use Rattle.book.specs.Soundness.{isHeld, isOfferWord, soundEntries, sound}
 use Rattle.book.specs.Status.{statusIn, heldOffer, offerIn}
 use Rattle.book.specs.declared.Entry.{Entry}
-use Rattle.book.proofs.Headers.{SoundBook, sound-book}
+use Rattle.book.proofs.Headers.{sound-book}
 use Rattle.book.proofs.SoundLists.{to-sound}
 use Rattle.book.proofs.Statuses.{no-code, stays, offer-word}
 use Rattle.book.proofs.Unique.{unique}
-use Rattle.history.specs.Effect.{Known, afterNotice}
+use Rattle.history.specs.Effect.{Known}
 use Rattle.history.specs.ChangeDays.{changeDays}
 use Rattle.history.specs.Machine.{words}
 use Rattle.history.specs.Applying.{inBook, afterBook, newEntries, newBook}

@@ -1,15 +1,15 @@
 -- The statuses of the change days of some statuses are those statuses.
 -- Assumes nothing.
 use mathlib.Core.Path.{_≡_, refl, ap, sym, _∙_}
-use mathlib.Core.Bool.{Bool, true, false, cond, _&&_}
+use mathlib.Core.Bool.{Bool, true, false, cond}
 use mathlib.Core.List.{List, [], _∷_, _++_}
 use Prim.Native.Nat.{ℕ, zero, suc, _+_, _≤_, _<_}
 use native.Mathlib.Omega.{arith}
-use borrow.Author.Tests.{lt-leb, le-leb, eq-eqb, ne-eqb, eqb-true, eqb-false}
-use lib.Dec.{eqb, leb}
+use borrow.Author.Tests.{eqb-true, eqb-false}
+use lib.Dec.{eqb}
 use Rattle.dial_code.specs.Key.{keysEnd}
 use Rattle.dial_code.specs.Code.{isCodeKey}
-use Rattle.dial_code.proofs.Tests.{and-right-false, Order, below, equal, above, order}
+use Rattle.dial_code.proofs.Tests.{below, equal, above, order}
 use Rattle.dial_code.proofs.CodeLaws.{beyond-keys}
 use Rattle.book.specs.Layout.{entry}
 use Rattle.book.specs.Soundness.{isOfferWord, soundEntries}

@@ -1,7 +1,7 @@
 -- Corollaries of demand 3: a refused notice changes no offer, a notice that is not full changes none outside the countries that
 -- it names, the space of the new book refuses exactly where it is short, and the entries left are the machine's change days.
 -- Assumes nothing.
-use mathlib.Core.Path.{_≡_, refl, ap, ap₂, sym, _∙_}
+use mathlib.Core.Path.{_≡_, refl, ap, ap₂, _∙_}
 use mathlib.Core.Bool.{Bool, true, false, cond}
 use mathlib.Core.List.{List, [], _∷_, map}
 use mathlib.Core.Logic.{_≢_, _↔_}
@@ -20,10 +20,9 @@ use Rattle.rate.specs.declared.Day.{Day}
 use Rattle.notice.specs.NoticeRule.{Notice, notice, readNotice, full}
 use Rattle.notice.specs.declared.Line.{Line}
 use Rattle.notice.proofs.NoticeLaws.{notice-valid}
-use Rattle.book.specs.Layout.{countOf, periodOf, receivedOf, held, entriesOf}
+use Rattle.book.specs.Layout.{periodOf, receivedOf, held, entriesOf}
 use Rattle.book.specs.Soundness.{sound}
 use Rattle.book.specs.Answers.{freshRefusal, freshBook, lookup}
-use Rattle.book.proofs.Rows.{length-entries}
 use Rattle.book.proofs.BookWords.{entries-back}
 use Rattle.history.specs.Effect.{Known, namedBy, afterNotice}
 use Rattle.history.specs.ChangeDays.{changeDays}
@@ -164,10 +163,6 @@ module _ (ws : List ℕ) (period : ℕ) (accepted : List Notice) (l : Linked ws 
       rw (eq-eqb (applyRefusal ws (a .bytes) (length (a .new))) 0 e, accepted-words ws (a .bytes) (a .new) e n q)
       (entries-back (length (a .new)) (periodOf ws) (n .received) (afterBook ws n .latest) (newEntries ws n)
       ∙ same-entries ws period accepted l n)
-
-  -- The book's entry count is the number of the machine's change days.
-  pub accepted-count : countOf (current ws a) ≡ length (changeDays (words (known period (n ∷ accepted))))
-  accepted-count = sym (length-entries (current ws a)) ∙ ap length accepted-entries
 
   -- The apply answers that number, and the machine's last received day and latest effective day.
   pub accepted-answer :

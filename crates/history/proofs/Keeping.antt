@@ -1,22 +1,21 @@
 -- What a notice keeps of what is known: offers in range, closed where a key is no code's, nothing new after the last day.
 -- Assumes nothing.
 use mathlib.Core.Path.{_≡_, refl, ap, sym, _∙_}
-use mathlib.Core.Bool.{Bool, true, false, cond, _&&_, _||_, true≢false, false≢true}
+use mathlib.Core.Bool.{Bool, true, false, cond, _||_, true≢false}
 use mathlib.Core.List.{List, [], _∷_}
-use Prim.Native.Nat.{ℕ, zero, suc, _+_, _-_, max, _≤_, _<_}
+use Prim.Native.Nat.{ℕ, _-_, _≤_}
 use native.Mathlib.Omega.{arith}
-use borrow.Author.Tests.{lt-leb, le-leb, eq-eqb, ne-eqb, eqb-true}
+use borrow.Author.Tests.{le-leb, eqb-true}
 use lib.Dec.{eqb, leb}
 use Rattle.dial_code.specs.Code.{isCodeKey}
 use Rattle.rate.specs.OfferWord.{inRange}
 use Rattle.rate.specs.declared.Offer.{Offer}
-use Rattle.rate.specs.declared.Offer.the-variants.{Closed, Blocked, Open}
+use Rattle.rate.specs.declared.Offer.the-variants.{Closed}
 use Rattle.notice.specs.NoticeRule.{Notice, notice, readNotice, replacement}
 use Rattle.notice.specs.declared.Line.{Line}
-use Rattle.notice.proofs.LineLaws.{ValidLine}
 use Rattle.notice.proofs.LinesLaws.{ValidFrom}
-use Rattle.notice.proofs.NoticeLaws.{Valid, notice-valid}
-use Rattle.history.specs.Effect.{Known, Listing, listed, unlisted, Change, from, nothing, wanted, floorOf, noticed, outOfSequence, isIncrease, effective, lineFor, closes, firstNoticed, closing, listedChange, changeOf, changed, latestEffective, afterNotice}
+use Rattle.notice.proofs.NoticeLaws.{notice-valid}
+use Rattle.history.specs.Effect.{Known, listed, Change, from, nothing, wanted, floorOf, noticed, outOfSequence, isIncrease, effective, lineFor, closes, firstNoticed, closing, listedChange, changeOf, changed, latestEffective, afterNotice}
 
 -- What reading a notice tells of its lines.
 pub record GoodLine (l : Line) : Type 0 where

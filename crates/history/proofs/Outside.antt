@@ -21,7 +21,6 @@ use Rattle.dial_code.proofs.CountedKeys.{country-of-key}
 use Rattle.dial_code.proofs.CodeLaws.{without-country}
 use Rattle.rate.specs.Time.{isDay}
 use Rattle.rate.specs.declared.Day.{Day}
-use Rattle.rate.specs.declared.Offer.{Offer}
 use Rattle.rate.specs.declared.Offer.the-variants.{Closed}
 use Rattle.notice.specs.NoticeRule.{Notice, readNotice, full}
 use Rattle.notice.specs.declared.Line.{Line}
@@ -29,12 +28,12 @@ use Rattle.notice.proofs.LinesLaws.{ValidFrom}
 use Rattle.notice.proofs.NoticeLaws.{Valid}
 use Rattle.book.specs.Layout.{headerWords, periodOf, held}
 use Rattle.book.specs.Soundness.{sound}
-use Rattle.book.specs.Status.{longest, matched}
+use Rattle.book.specs.Status.{matched}
 use Rattle.book.specs.Answers.{bookRefusal, lookup}
 use Rattle.book.specs.declared.Lookup.the-variants.{Found}
 use Rattle.book.proofs.Headers.{sound-book}
 use Rattle.book.proofs.BookWords.{entries-back, sound-back}
-use Rattle.book.proofs.Matching.{statusOn}
+use Rattle.book.proofs.Matching.{statusOn, matched-alike}
 use Rattle.book.proofs.Lookups.{usable-book, usable-sound, no-number, no-day, answered}
 use Rattle.history.specs.Effect.{Known, unlisted, Change, from, nothing, lineFor, sameCountry, namedBy, inCountry, closes}
 use Rattle.history.specs.Effect.{closing, listedChange, changeOf, changed}
@@ -165,20 +164,6 @@ module _ (k c : ℕ) (at : countryOfKey k ≡ Code c) where
 
 -- Lookups.
 
--- the longest match depends on the statuses of the number's beginnings
-longest-within :
-    (f g : ℕ → Offer) (ds : List ℕ) (n : ℕ)
-    → ((m : ℕ) → f (key (take m ds)) ≡ g (key (take m ds)))
-    → longest f ds n ≡ longest g ds n
-unfolding longest
-longest-within f g ds zero e = refl
-longest-within f g ds (suc n) e = rw (e (suc n), longest-within f g ds n e)
-
-matched-within : (f g : ℕ → Offer) (ds : List ℕ)
-    → ((m : ℕ) → f (key (take m ds)) ≡ g (key (take m ds))) → matched f ds ≡ matched g ds
-unfolding matched
-matched-within f g ds e = longest-within f g ds (length ds) e
-
 -- a book that an apply does not refuse is sound
 pub usable-old : (ws bytes : List ℕ) (len : ℕ) → applyRefusal ws bytes len ≡ 0 → sound ws ≡ true
 unfolding applyRefusal
@@ -256,7 +241,7 @@ outside-new ws n len number day h g v f s u = by-number (isDialled number) refl 
         ≡ matched (statusOn ws (day .0)) (map digitOf number)
     kept i =
         let p = dialled-digits number i in
-        matched-within (statusOn (newBook ws len n) (day .0)) (statusOn ws (day .0)) (map digitOf number)
+        matched-alike (statusOn (newBook ws len n) (day .0)) (statusOn ws (day .0)) (map digitOf number)
         (λ m.
         ap (λ (x : Known). x .status (key (take m (map digitOf number))) (day .0)) (new-gives ws n len h g)
         ∙ beginning-kept ws n (map digitOf number) h g v f (p .1) (p .0) u m (day .0))

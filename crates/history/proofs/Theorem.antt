@@ -1,9 +1,9 @@
 -- Demand 3: the applies from a fresh book answer what the plain machine answers, and the book left gives its offers.
 -- Assumes nothing.
 use mathlib.Core.Path.{_≡_, refl, ap, ap₂, sym, _∙_, fun-ext}
-use mathlib.Core.Bool.{Bool, true, false, cond, true≢false}
+use mathlib.Core.Bool.{Bool, true, false, cond}
 use mathlib.Core.List.{List, [], _∷_, map}
-use Prim.Native.Nat.{ℕ, zero, suc, _≤_, _<_}
+use Prim.Native.Nat.{ℕ, _≤_}
 use native.Mathlib.Omega.{arith}
 use borrow.Author.Tests.{ltb-false, leb-true, eq-eqb, eqb-true}
 use lib.Dec.{eqb, leb, ltb}
@@ -15,22 +15,21 @@ use Rattle.rate.specs.declared.Offer.the-variants.{Closed}
 use Rattle.rate.specs.Time.{isDay}
 use Rattle.rate.specs.declared.Day.{Day}
 use Rattle.notice.specs.NoticeRule.{Notice, Reading, notice, unread, readNotice}
-use Rattle.book.specs.Layout.{headerWords, held, entriesOf, bookOf, periodOf, receivedOf, latestOf}
-use Rattle.book.specs.Soundness.{soundEntries, sound}
+use Rattle.book.specs.Layout.{headerWords, held, entriesOf, bookOf, periodOf, receivedOf}
+use Rattle.book.specs.Soundness.{sound}
 use Rattle.book.specs.Status.{statusIn, offerIn, matched}
 use Rattle.book.specs.Answers.{freshRefusal, freshBook, bookRefusal, lookup}
 use Rattle.book.specs.declared.Entry.{Entry}
-use Rattle.book.specs.declared.Lookup.{Lookup}
 use Rattle.book.specs.declared.Lookup.the-variants.{Found}
-use Rattle.book.proofs.Headers.{SoundBook, sound-book}
+use Rattle.book.proofs.Headers.{sound-book}
 use Rattle.book.proofs.Lookups.{usable-book}
 use Rattle.book.proofs.BookWords.{entries-back, sound-back}
 use Rattle.book.proofs.FreshBooks.{fresh-sound, fresh-entries}
 use Rattle.notice.proofs.NoticeLaws.{notice-refusals}
 use Rattle.history.specs.Effect.{Known, afterNotice}
 use Rattle.history.specs.ChangeDays.{changeDays}
-use Rattle.history.specs.Machine.{known, unknown, lastReceived, words, judged, readings, answers, answerOf}
-use Rattle.history.specs.Applying.{inBook, afterBook, newEntries, judgedBy, readBy, applyRefusal, newBook, applied, writtenBook}
+use Rattle.history.specs.Machine.{known, lastReceived, words, judged, readings, answers, answerOf}
+use Rattle.history.specs.Applying.{inBook, afterBook, newEntries, judgedBy, readBy, applyRefusal, newBook, applied}
 use Rattle.history.specs.Claim.{Apply, withNotice, accepts, machineAnswers, acceptedBy, current, bookAnswers, bookLeft, Alike}
 use Rattle.history.proofs.Keeping.{Good, good}
 use Rattle.history.proofs.Books.{standing-after, new-entries-sound, gives-after, entries-are}

@@ -133,8 +133,3 @@ header-told s =
 pub header-spans : (s : List ℕ) (h : Header) → readHeader s ≡ header.Leads h → Leading s h
 unfolding HeaderTold
 header-spans s h e = subst (HeaderTold s) e (header-told s)
-
--- They are refused with one of 1 to 9.
-pub header-refusals : (s : List ℕ) (e : ℕ) → readHeader s ≡ header.Refused e → Known e
-unfolding HeaderTold
-header-refusals s e p = subst (HeaderTold s) p (header-told s)

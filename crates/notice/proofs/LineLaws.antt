@@ -293,12 +293,3 @@ module _ (named before last : ℕ) (s : List ℕ) where
   -- A line that reads in its notice reads the same by itself.
   pub line-alone : (l : Line) (size : ℕ) → readLine named before last s ≡ line.Read l size → readLine 0 0 0 s ≡ line.Read l size
   line-alone l size e = taken l size e .alone
-
-  -- A line that is read is valid.
-  pub line-valid : (l : Line) (size : ℕ) → readLine named before last s ≡ line.Read l size → ValidLine named before last l
-  line-valid l size e = taken l size e .valid
-
-  -- A line is refused with one of 1 to 9.
-  pub line-refusals : (e : ℕ) → readLine named before last s ≡ line.Refused e → Known e
-  unfolding LineTold
-  line-refusals e p = subst (LineTold named before last s) p (line-told named before last s)

@@ -69,10 +69,6 @@ module _ (n named before last : ℕ) (s : List ℕ) where
       go (line.Read l size) p f = then l size p (next l size) refl f
       go (line.Refused x) p f = let z : _≡_ {A = ℕ} 0 1 = cc in absurd (omega arith)
 
-  -- There is a line where one is asked for.
-  pub lines-some : readLines (suc n) named before last s ≡ lines [] → ⊥
-  lines-some e = let m = lines-more [] e in let z : _≡_ {A = ℕ} 0 1 = cc (m .whole) in omega arith
-
 -- Where none is asked for there is none, and the bytes are over.
 pub lines-none : (named before last : ℕ) (s : List ℕ) (ls : List Line) → readLines zero named before last s ≡ lines ls
     → (ls ≡ []) × (s ≡ [])
@@ -110,27 +106,6 @@ line-next (suc n) named before last s at ls h e =
       stays = omega (arith, length-drop at s);
       on = rw (d, ← drop-drop (m .size) at s) (m .on);
     }
-
--- The same of lines that are known to be a line and others.
-pub line-step :
-    (n named before last : ℕ) (s : List ℕ) (at : ℕ) (l : Line) (ls : List Line)
-    → readLines (suc n) named before last (drop at s) ≡ lines (l ∷ ls)
-    → (end : ℕ)
-    × (lineAt s at ≡ line.Read l end)
-    × (at < end)
-    × (end ≤ length s)
-    × (readLines n named (l .key) (l .listed) (drop end s) ≡ lines ls)
-line-step n named before last s at l ls e =
-    let m = line-next (suc n) named before last s at (l ∷ ls) (omega arith) e in
-    let f : m .first ≡ l = cc (m .whole) in
-    let o : m .others ≡ ls = cc (m .whole) in
-    let d : suc n - 1 ≡ n = omega arith in (
-      m .end,
-      m .here ∙ ap (λ (x : Line). line.Read x (m .end)) f,
-      m .moves,
-      m .stays,
-      ap (λ (x : Line). readLines n named (x .key) (x .listed) (drop (m .end) s)) (sym f) ∙ rw d at (m .on) ∙ ap lines o,
-    )
 
 -- Each line is valid after the one before it.
 unfoldable pub ValidFrom : ℕ → ℕ → ℕ → List Line → Type 0
@@ -178,8 +153,3 @@ module _ (n named before last : ℕ) (s : List ℕ) where
   pub lines-valid : (ls : List Line) → readLines n named before last s ≡ lines ls → ValidFrom named before last ls
   unfolding LinesTold
   lines-valid ls e = subst (LinesTold n named before last) e (lines-told n named before last s) .1
-
-  -- They are refused with one of 1 to 9.
-  pub lines-refusals : (e : ℕ) → readLines n named before last s ≡ refused e → Known e
-  unfolding LinesTold
-  lines-refusals e p = subst (LinesTold n named before last) p (lines-told n named before last s)

@@ -14,7 +14,7 @@ use Rattle.notice.specs.declared.HeaderRead.the-variants as header
 use Rattle.notice.proofs.Told.{Known}
 use Rattle.notice.proofs.HeaderLaws.{Leading, HeaderTold, header-told}
 use Rattle.notice.proofs.LinesLaws.{ValidFrom, LinesTold, lines-told}
-use Rattle.notice.proofs.ValidLines.{keys-rise, all-inside, as-first}
+use Rattle.notice.proofs.ValidLines.{keys-rise, all-inside}
 
 -- A valid notice: its leading fields are in range, only a replacement names a country, and each line is valid after the one
 -- before it.
@@ -78,7 +78,3 @@ module _ (n : Notice) (v : Valid n) (d : Line) where
   -- Every line of a replacement lies in its country.
   pub inside : n .kind ≡ 4 → (j : ℕ) → j < length (n .lines) → countryOfKey (getD (n .lines) j d .key) ≡ Code (n .country)
   inside e j h = all-inside d (n .country) 0 0 (n .lines) (v .lines-valid) (v .named e) j h
-
-  -- The last fields of a replacement are all that of its first line.
-  pub agreeing : n .kind ≡ 4 → (j : ℕ) → j < length (n .lines) → getD (n .lines) j d .listed ≡ getD (n .lines) 0 d .listed
-  agreeing e j h = as-first d (n .country) (n .lines) (v .lines-valid) (v .named e) j h

@@ -11,16 +11,13 @@ use lib.Dec.{eqb, lit<}
 use lib.ListN.{length}
 use Rattle.varint.specs.Several.{encodableAll, sizeOfAll}
 use Rattle.varint.proofs.Several.{all-nil, all-cons, all-sized}
-use Rattle.dial_code.proofs.KeyCode.{key-sends}
 use Rattle.rate.specs.OfferWord.{inRange}
 use Rattle.rate.specs.declared.Offer.{Offer}
 use Rattle.rate.specs.declared.Offer.the-variants.{Closed, Blocked, Open}
 use Rattle.rate.proofs.Words.{parts}
-use Rattle.notice.specs.Layout.{offerFields, lineFields, countryCount, headerFields, encodeLine, encodeHeader}
-use Rattle.notice.specs.declared.Line.{Line}
+use Rattle.notice.specs.Layout.{offerFields, countryCount, headerFields, encodeHeader}
 use Rattle.notice.proofs.Links.{yes-case, no-case}
-use Rattle.notice.proofs.LayoutLaws.{line-opens, line-bytes, header-bytes}
-use Rattle.notice.proofs.LineLaws.{ValidLine}
+use Rattle.notice.proofs.LayoutLaws.{header-bytes}
 use Rattle.notice.proofs.NoticeBack.{Leads, count-range, afterReceived, fields-open}
 
 -- One number more has an encoding, and so have an offer's fields.
@@ -38,18 +35,6 @@ terms-encodable (Open r first next) ns h e =
     (one-more 8 _ (omega arith)
     (one-more (r .0) _ (omega (arith, p .rate-most))
     (one-more first _ (omega (arith, p .first-most)) (one-more next ns (omega (arith, p .next-most)) e))))
-
-module _ (named before last : ℕ) (l : Line) (v : ValidLine named before last l) where
-  pub line-encodable : encodableAll (lineFields l) ≡ true
-  line-encodable =
-      let q = key-sends (l .key) (v .allowed) in
-      ap encodableAll (line-opens l)
-      ∙ one-more _ _ (omega (arith, q .count-most))
-      (one-more _ _ (omega (arith, q .value-most))
-      (terms-encodable (l .offer) (l .listed ∷ []) (v .in-range) (one-more (l .listed) [] (omega (arith, v .few)) all-nil)))
-
-  pub line-sized : sizeOfAll (lineFields l) ≡ length (encodeLine l)
-  line-sized = all-sized (lineFields l) line-encodable ∙ sym (ap length (line-bytes l))
 
 module _ (kind received named count : ℕ) (v : Leads kind received named count) where
   pub header-encodable : encodableAll (headerFields kind received named count) ≡ true

@@ -1,5 +1,5 @@
 -- What holds of each line of a list of valid lines. Assumes nothing.
-use mathlib.Core.Path.{_≡_, refl, _∙_}
+use mathlib.Core.Path.{_≡_, _∙_}
 use mathlib.Core.List.{List, [], _∷_}
 use mathlib.Core.Logic.{⊎-elim}
 use Prim.Native.Nat.{ℕ, zero, suc, _<_}
@@ -59,11 +59,3 @@ module _ (d : Line) (named : ℕ) where
   all-agree before last (l ∷ ls) v n b (suc j) h =
       all-agree (l .key) (l .listed) ls (v .1) n (omega (arith, v .0 .rises)) j (omega arith)
       ∙ agreed named before last l (v .0) n b
-
-  -- All of them have the last field of the first.
-  pub as-first : (ls : List Line) → ValidFrom named 0 0 ls → 0 < named → (j : ℕ) → j < length ls
-      → getD ls j d .listed ≡ getD ls 0 d .listed
-  unfolding ValidFrom
-  as-first [] v n j h = absurd (omega arith)
-  as-first (l ∷ ls) v n zero h = refl
-  as-first (l ∷ ls) v n (suc j) h = all-agree (l .key) (l .listed) ls (v .1) n (omega (arith, v .0 .rises)) j (omega arith)

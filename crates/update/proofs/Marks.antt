@@ -1,15 +1,15 @@
 -- The marks of a partial notice's countries say which codes it closes.
 -- Assumes nothing.
 use mathlib.Core.Path.{_≡_, refl, ap, ap₂, sym, _∙_}
-use mathlib.Core.Bool.{Bool, true, false, cond, _&&_, _||_, or-false, or-true}
+use mathlib.Core.Bool.{Bool, true, false, cond, _||_, or-false}
 use mathlib.Core.List.{List, [], _∷_}
-use Prim.Native.Nat.{ℕ, zero, suc, _+_, _-_, _*_, _^_, _≤_, _<_}
+use Prim.Native.Nat.{ℕ, zero, suc, _+_, _-_, _*_, _≤_, _<_}
 use native.Mathlib.Omega.{arith}
-use borrow.Author.Tests.{lt-ltb, le-ltb, eq-eqb, ne-eqb, eqb-true, eqb-false}
+use borrow.Author.Tests.{lt-ltb, eq-eqb, eqb-true, eqb-false}
 use native.Mathlib.Nat.{pow-le-pow-right, lt-of-lt-of-le}
 use lib.Dec.{eqb, leb, ltb, lit<}
-use lib.ListN.{length, getD, set, take, replicate, length-set, length-take, length-replicate, getD-replicate}
-use lib.Seq.{getD-set-same, getD-set-other, set-out}
+use lib.ListN.{length, getD, set, take, length-take, length-replicate, getD-replicate}
+use lib.Seq.{getD-set-same, getD-set-other}
 use Rattle.dial_code.specs.Digits.{every, isDigit, value}
 use Rattle.dial_code.specs.Key.{digitsOfKey}
 use Rattle.dial_code.specs.CountryCode.{oneDigit, twoDigits, countryDigits, country, countryOfKey}
@@ -18,7 +18,7 @@ use Rattle.dial_code.specs.declared.Country.the-variants.{Code, None}
 use Rattle.dial_code.proofs.Tests.{both, and-left-true}
 use Rattle.dial_code.proofs.DigitLaws.{value-below}
 use Rattle.book.proofs.Matching.{word-digits}
-use Rattle.notice.specs.NoticeRule.{Notice, full, partial, replacement}
+use Rattle.notice.specs.NoticeRule.{Notice, partial}
 use Rattle.notice.specs.declared.Line.{Line}
 use Rattle.notice.specs.declared.Summary.{Summary}
 use Rattle.history.specs.Effect.{sameCountry, namedBy, inCountry, closes}

@@ -3,10 +3,9 @@
 use mathlib.Core.Path.{_≡_, refl, ap, ap₂, sym, _∙_}
 use mathlib.Core.Bool.{Bool, true, false, cond, _&&_, true≢false}
 use mathlib.Core.List.{List, [], _∷_}
-use Prim.Native.Nat.{ℕ, zero, suc, _≤_, _<_}
+use Prim.Native.Nat.{ℕ, _≤_, _<_}
 use native.Mathlib.Omega.{arith}
 use lib.Dec.{eqb, leb}
-use lib.ListN.{length}
 use Rattle.dial_code.specs.Key.{keysEnd}
 use Rattle.dial_code.specs.Code.{isCodeKey}
 use Rattle.dial_code.proofs.CodeLaws.{beyond-keys}
@@ -15,27 +14,25 @@ use Rattle.rate.specs.OfferWord.{wordOf}
 use Rattle.rate.specs.declared.Offer.{Offer}
 use Rattle.rate.specs.declared.Offer.the-variants.{Closed}
 use Rattle.rate.proofs.Words.{closed-word}
-use Rattle.notice.specs.NoticeRule.{Notice, readNotice}
+use Rattle.notice.specs.NoticeRule.{Notice}
 use Rattle.notice.specs.declared.Line.{Line}
 use Rattle.notice.specs.declared.Summary.{Summary}
 use Rattle.notice.proofs.Checking as checking
-use Rattle.notice.proofs.LineLaws.{ValidLine}
 use Rattle.notice.proofs.LinesLaws.{ValidFrom}
 use Rattle.notice.proofs.NoticeLaws.{Valid, notice-valid}
 use Rattle.book.specs.Layout.{entriesOf, periodOf, latestOf}
 use Rattle.book.specs.Soundness.{sound, soundEntries}
 use Rattle.book.specs.Status.{statusIn}
-use Rattle.book.specs.declared.Entry.{Entry}
 use Rattle.book.proofs.Headers.{sound-book}
-use Rattle.book.proofs.SoundLists.{Allowed, to-sound}
+use Rattle.book.proofs.SoundLists.{to-sound}
 use Rattle.book.proofs.Unique.{unique}
-use Rattle.history.specs.Effect.{Known, Listing, listed, unlisted, Change, from, nothing, effective, lineFor, closes, closing, listedChange, changeOf, changed}
+use Rattle.history.specs.Effect.{Known, Listing, listed, unlisted, from, nothing, effective, lineFor, closes, closing, listedChange, changeOf, changed}
 use Rattle.history.specs.ChangeDays.{changeDays}
 use Rattle.history.specs.Machine.{words}
 use Rattle.history.specs.Applying.{inBook, afterBook, newEntries}
-use Rattle.history.proofs.ChangeLaws.{Admissible, status-back}
+use Rattle.history.proofs.ChangeLaws.{status-back}
 use Rattle.history.proofs.Keeping.{GoodLine, GoodLines, Good, good, effective-by, closing-by}
-use Rattle.history.proofs.Books.{is-word, admissible, standing-book, standing-after, new-entries-sound, given-word}
+use Rattle.history.proofs.Books.{is-word, admissible, standing-after, new-entries-sound, given-word}
 use Rattle.update.specs.Passes.{merged}
 use Rattle.update.specs.Plans.{planOf, effectiveBy, changeBy, changesBy, latestBy, marksFor, closesBy, mergedBy}
 use Rattle.update.specs.declared.Plan.{Plan}

@@ -286,18 +286,3 @@ module _ (ws : List ℕ) (from to : Place) where
         length-rows ws (to .at) (to .left),
         ap length (p .left),
       )
-
-  pub line-bound :
-      (c : Entry) (closes : ℕ → Bool) (day : ℕ)
-      → Passed ws from to (lineEntries c closes day (entriesFrom ws (from .at) (from .left)))
-      (lineRest c (entriesFrom ws (from .at) (from .left)))
-      → to .count + 2 * to .left ≤ from .count + 2 * from .left + 1
-  line-bound c closes day p =
-      let es = entriesFrom ws (from .at) (from .left) in
-      omega (
-        arith,
-        line-most c closes day es,
-        length-rows ws (from .at) (from .left),
-        length-rows ws (to .at) (to .left),
-        ap length (p .left),
-      )

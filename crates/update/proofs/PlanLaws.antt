@@ -1,24 +1,21 @@
 -- The plan of a notice says what the rules say: effective days, what is closed and when.
 -- Assumes nothing.
 use mathlib.Core.Path.{_≡_, refl, ap, ap₂, sym, _∙_}
-use mathlib.Core.Bool.{Bool, true, false, cond, _&&_, _||_, or-assoc, or-false}
+use mathlib.Core.Bool.{Bool, true, false, cond, _||_, or-assoc}
 use mathlib.Core.List.{List, [], _∷_}
 use mathlib.Core.Logic.{_⊎_, ⊎-elim}
-use Prim.Native.Nat.{ℕ, zero, suc, _+_, _-_, min, max, _≤_, _<_}
+use Prim.Native.Nat.{ℕ, _+_, _-_, min, max, _≤_, _<_}
 use native.Mathlib.Omega.{arith}
 use borrow.Author.Tests.{lt-ltb, le-ltb, ltb-true, ltb-false, eqb-true}
-use lib.Dec.{eqb, leb, ltb}
-use lib.ListN.{length, getD, set, replicate}
-use Rattle.dial_code.proofs.Tests.{Order, below, equal, above, order}
+use lib.Dec.{eqb, ltb}
+use lib.ListN.{length}
 use Rattle.notice.specs.NoticeRule.{Notice, replacement, earliest}
 use Rattle.notice.specs.declared.Line.{Line}
 use Rattle.notice.specs.declared.Summary.{Summary}
-use Rattle.notice.proofs.LineLaws.{ValidLine}
 use Rattle.notice.proofs.LinesLaws.{ValidFrom}
 use Rattle.notice.proofs.NoticeLaws.{Valid}
-use Rattle.history.specs.Effect.{Known, increases, wanted, floorOf, noticed, someEarlier, outOfSequence, isIncrease, effective, firstNoticed, closing, latestEffective}
+use Rattle.history.specs.Effect.{Known, increases, wanted, floorOf, someEarlier, outOfSequence, effective, firstNoticed, closing, latestEffective}
 use Rattle.update.specs.Plans.{planOf, effectiveBy, latestBy}
-use Rattle.update.specs.declared.Plan.{Plan}
 
 -- What a summary tells of a notice.
 pub record Summed (m : Summary) (n : Notice) : Type 0 where

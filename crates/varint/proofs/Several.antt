@@ -46,15 +46,6 @@ pub bytes-cons : (n : ℕ) (ns : List ℕ) → encodeAll (n ∷ ns) ≡ encode n
 unfolding encodeAll
 bytes-cons n ns = refl
 
--- The bytes of two lists of numbers are those of the first and then those of the second.
-pub bytes-append : (ms ns : List ℕ) → encodeAll (ms ++ ns) ≡ encodeAll ms ++ encodeAll ns
-unfolding encodeAll
-bytes-append [] ns = refl
-bytes-append (m ∷ ms) ns = ap (λ (t : List ℕ). encode m ++ t) (bytes-append ms ns) ∙ sym (append-assoc (encode m) _ _)
-
-pub length-bytes-append : (ms ns : List ℕ) → length (encodeAll (ms ++ ns)) ≡ length (encodeAll ms) + length (encodeAll ns)
-length-bytes-append ms ns = ap length (bytes-append ms ns) ∙ length-append (encodeAll ms) (encodeAll ns)
-
 pub length-bytes-cons : (n : ℕ) (ns : List ℕ) → length (encodeAll (n ∷ ns)) ≡ length (encode n) + length (encodeAll ns)
 length-bytes-cons n ns = ap length (bytes-cons n ns) ∙ length-append (encode n) (encodeAll ns)
 

@@ -22,7 +22,7 @@ use Rattle.rate.specs.declared.Charged.the-variants as charged
 use Rattle.notice.specs.Field.{readRanged}
 use Rattle.notice.specs.LineRule.{lineOf, codeField, readCode, readIncrements, readRate, readTerms, listedField, readListed}
 use Rattle.notice.specs.LineRule.{readLine}
-use Rattle.notice.specs.NoticeRule.{Notice, Reading, notice, isCountryCode, readCountry, readNamed, readDated, readHeader}
+use Rattle.notice.specs.NoticeRule.{Reading, notice, isCountryCode, readCountry, readNamed, readDated, readHeader}
 use Rattle.notice.specs.NoticeRule.{readLines, readNotice}
 use Rattle.notice.specs.declared.Line.{Line}
 use Rattle.book.specs.Layout.{entry}
