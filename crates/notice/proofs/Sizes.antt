@@ -23,10 +23,11 @@ use Rattle.notice.proofs.LayoutLaws.{line-opens, line-bytes, header-byt
 use Rattle.notice.proofs.LineLaws.{ValidLine}
 use Rattle.notice.proofs.NoticeBack.{Leads, count-range, afterReceived, fields-open}
 
-one-more : (n : ℕ) (ns : List ℕ) → n < 2 ^ 63 → encodableAll ns ≡ true → encodableAll (n ∷ ns) ≡ true
+-- One number more has an encoding, and so have an offer's fields.
+pub one-more : (n : ℕ) (ns : List ℕ) → n < 2 ^ 63 → encodableAll ns ≡ true → encodableAll (n ∷ ns) ≡ true
 one-more n ns h e = all-cons n ns h ∙ e
 
-terms-encodable : (o : Offer) (ns : List ℕ) → inRange o ≡ true → encodableAll ns ≡ true
+pub terms-encodable : (o : Offer) (ns : List ℕ) → inRange o ≡ true → encodableAll ns ≡ true
     → encodableAll (offerFields o ++ ns) ≡ true
 unfolding offerFields
 terms-encodable Closed ns h e = one-more 0 ns (omega arith) e

@@ -1,0 +1,136 @@
+-- The line of any entry has an encoding, of at most 72 bytes; so what the entries add takes few lines and few bytes.
+-- Assumes nothing.
+use mathlib.Core.Path.{_≡_, refl, ap, sym, _∙_}
+use mathlib.Core.Bool.{Bool, true, false, cond}
+use mathlib.Core.List.{List, [], _∷_, _++_, append-nil}
+use Prim.Native.Nat.{ℕ, _+_, _*_, _^_, _≤_, _<_}
+use native.Mathlib.Nat.{pow-le-pow-right}
+use native.Mathlib.Omega.{arith}
+use lib.Dec.{lit<}
+use lib.ListN.{length, length-append}
+use Rattle.varint.specs.Several.{encodeAll, encodableAll, sizeOfAll}
+use Rattle.varint.proofs.Laws.{size}
+use Rattle.varint.proofs.Several.{all-nil, all-sized, bytes-nil, length-bytes-cons}
+use Rattle.dial_code.specs.Digits.{value}
+use Rattle.dial_code.specs.Key.{keysEnd, digitsOfKey, placesOf}
+use Rattle.dial_code.specs.Code.{codeOf}
+use Rattle.dial_code.specs.declared.Code.{Code}
+use Rattle.dial_code.proofs.Tests.{Order, below, equal, above, order}
+use Rattle.dial_code.proofs.DigitLaws.{value-below}
+use Rattle.dial_code.proofs.CountryLaws.{all-places}
+use Rattle.dial_code.proofs.CodeLaws.{length-places, digits-places}
+use Rattle.dial_code.proofs.KeyCode.{code-opens, no-code}
+use Rattle.rate.specs.OfferWord.{offerOf, inRange}
+use Rattle.rate.specs.declared.Offer.{Offer}
+use Rattle.rate.specs.declared.Offer.the-variants.{Closed, Blocked, Open}
+use Rattle.rate.specs.declared.Stored.{Stored}
+use Rattle.rate.specs.declared.Stored.the-variants.{Holds, Invalid}
+use Rattle.rate.proofs.Words.{only-word}
+use Rattle.notice.specs.Layout.{offerFields, lineFields, encodeLine, encodeLines}
+use Rattle.notice.specs.declared.Line.{Line}
+use Rattle.notice.proofs.LayoutLaws.{line-opens, line-bytes, lines-nil, lines-cons, lines-append}
+use Rattle.notice.proofs.Sizes.{one-more, terms-encodable}
+use Rattle.book.specs.Status.{heldOffer}
+use Rattle.book.specs.declared.Entry.{Entry}
+use Rattle.listing.specs.Pass.{stands, entryLine, addedBy}
+use Rattle.listing.proofs.Passing.{passed, offerAt}
+
+-- The code of any word has at most 15 digits.
+code-fits : (w : ℕ) → (codeOf w .count ≤ 15) × (codeOf w .value < 10 ^ 15)
+code-fits w = elim (order w keysEnd) [
+  | below l ↦ within l
+  | equal l ↦ beyond (omega arith)
+  | above l ↦ beyond (omega arith)
+]
+  where
+    beyond : keysEnd ≤ w → (codeOf w .count ≤ 15) × (codeOf w .value < 10 ^ 15)
+    beyond l = rw (no-code w l) (omega arith)
+
+    within : w < keysEnd → (codeOf w .count ≤ 15) × (codeOf w .value < 10 ^ 15)
+    within l =
+        let n = length-places 15 w in
+        let p : 10 ^ length (placesOf 15 w) ≤ 10 ^ 15 =
+        pow-le-pow-right (lit< tt) {i = length (placesOf 15 w)} {j = 15} n in
+        let v = value-below (placesOf 15 w) (digits-places 15 w l) in
+        rw (code-opens w, all-places w l) (n, omega arith)
+
+-- What any word stands for is in range.
+pub offer-in-range : (w : ℕ) → inRange (offerAt w) ≡ true
+unfolding inRange
+offer-in-range w = go (offerOf w) refl
+  where
+    go : (r : Stored) → offerOf w ≡ r → inRange (heldOffer r) ≡ true
+    go (Holds o) e = only-word w o e .1
+    go Invalid e = refl
+
+fields-few : (o : Offer) → length (offerFields o ++ (0 ∷ [])) ≤ 6
+unfolding offerFields
+fields-few Closed = omega arith
+fields-few Blocked = omega arith
+fields-few (Open r first next) = omega arith
+
+pub bytes-few : (ns : List ℕ) → length (encodeAll ns) ≤ 9 * length ns
+bytes-few [] = omega (arith, ap length bytes-nil)
+bytes-few (n ∷ ns) = omega (arith, length-bytes-cons n ns, size n, bytes-few ns)
+
+module _ (e : Entry) where
+  line-is : lineFields (entryLine e) ≡ codeOf (e .key) .count ∷ codeOf (e .key) .value ∷ offerFields (offerAt (e .offer)) ++ (0 ∷ [])
+  unfolding entryLine
+  line-is = line-opens (entryLine e)
+
+  pub entry-encodable : encodableAll (lineFields (entryLine e)) ≡ true
+  entry-encodable =
+      let f = code-fits (e .key) in
+      ap encodableAll line-is
+      ∙ one-more _ _ (omega arith)
+      (one-more _ _ (omega arith)
+      (terms-encodable (offerAt (e .offer)) (0 ∷ []) (offer-in-range (e .offer)) (one-more 0 [] (omega arith) all-nil)))
+
+  pub entry-sized : sizeOfAll (lineFields (entryLine e)) ≡ length (encodeLine (entryLine e))
+  entry-sized = all-sized (lineFields (entryLine e)) entry-encodable ∙ sym (ap length (line-bytes (entryLine e)))
+
+  entry-few : length (encodeLine (entryLine e)) ≤ 72
+  entry-few =
+      omega (
+        arith,
+        ap length (line-bytes (entryLine e)),
+        bytes-few (lineFields (entryLine e)),
+        ap length line-is,
+        fields-few (offerAt (e .offer)),
+      )
+
+-- the bytes of one line
+pub one-line : (l : Line) → encodeLines (l ∷ []) ≡ encodeLine l
+one-line l = lines-cons l [] ∙ ap (λ (bs : List ℕ). encodeLine l ++ bs) lines-nil ∙ append-nil (encodeLine l)
+
+-- What an entry adds: no line, or its own.
+module _ (e : Entry) (es : List Entry) (day : ℕ) where
+  pub adds-none : stands e es day ≡ false → addedBy e es day ≡ []
+  unfolding addedBy
+  adds-none q = rw q
+
+  pub adds-one : stands e es day ≡ true → addedBy e es day ≡ entryLine e ∷ []
+  unfolding addedBy
+  adds-one q = rw q
+
+  added-few : (length (addedBy e es day) ≤ 1) × (length (encodeLines (addedBy e es day)) ≤ 72)
+  added-few = go (stands e es day) refl
+    where
+      go : (t : Bool) → stands e es day ≡ t → (length (addedBy e es day) ≤ 1) × (length (encodeLines (addedBy e es day)) ≤ 72)
+      go true q = rw (adds-one q) (omega arith, omega (arith, ap length (one-line (entryLine e)), entry-few e))
+      go false q = rw (adds-none q, lines-nil) (omega arith)
+
+-- The pass adds at most one line an entry, of at most 72 bytes.
+pub passed-few : (es : List Entry) (day : ℕ) → (length (passed es day) ≤ length es) × (length (encodeLines (passed es day)) ≤ 72 * length es)
+unfolding passed
+passed-few [] day = rw lines-nil (omega arith)
+passed-few (e ∷ es) day =
+    let a = added-few e es day in
+    let r = passed-few es day in (
+      omega (arith, length-append (addedBy e es day) (passed es day)),
+      omega (
+        arith,
+        ap length (lines-append (addedBy e es day) (passed es day)),
+        length-append (encodeLines (addedBy e es day)) (encodeLines (passed es day)),
+      ),
+    )

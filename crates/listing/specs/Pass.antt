@@ -1,0 +1,39 @@
+-- The standing list worked from the entries one by one: an entry is its code's status on a day where it is not after the day and
+-- the next entry is of another code or after the day.
+use mathlib.Core.Bool.{Bool, false, cond, _&&_, not}
+use mathlib.Core.List.{List, [], _∷_}
+use Prim.Native.Nat.{ℕ}
+use lib.Dec.{eqb, leb}
+use lib.ListN.{length}
+use Rattle.rate.specs.OfferWord.{offerOf}
+use Rattle.notice.specs.LineRule.{lineOf}
+use Rattle.notice.specs.Layout.{encodeLines}
+use Rattle.notice.specs.declared.Line.{Line}
+use Rattle.book.specs.Status.{heldOffer}
+use Rattle.book.specs.declared.Entry.{Entry}
+use Rattle.listing.specs.declared.Extent.{Extent}
+
+-- the first of the entries after an entry is of the same code and not after the day
+unfoldable pub isReplaced : Entry → List Entry → ℕ → Bool
+isReplaced e [] day = false
+isReplaced e (f ∷ fs) day = eqb (e .key) (f .key) && leb (f .day) day
+
+-- An entry with those after it gives its code's status on a day, and that is not closed.
+unfoldable pub stands : Entry → List Entry → ℕ → Bool
+unfolding isReplaced
+stands e es day = leb (e .day) day && (not (eqb (e .offer) 0) && not (isReplaced e es day))
+
+-- the line of an entry
+unfoldable pub entryLine : Entry → Line
+unfolding offerOf
+entryLine e = lineOf (e .key) (heldOffer (offerOf (e .offer))) 0
+
+-- What an entry adds to the list: its line, or none.
+unfoldable pub addedBy : Entry → List Entry → ℕ → List Line
+unfolding stands entryLine
+addedBy e es day = cond (stands e es day) (entryLine e ∷ []) []
+
+-- How many lines there are, and how many bytes they take.
+unfoldable pub extentOf : List Line → Extent
+unfolding encodeLines
+extentOf ls = record { lines = length ls; bytes = length (encodeLines ls) }
