@@ -229,22 +229,28 @@ def rated(script, calls, more=0):
 
 def number_rows():
     """40: digit counts and values at and past their ends."""
-    for count in (0, 16, 17, 255, 256, 2**16 + 4, 2**32, 2**32 + 4, 2**40, LARGEST):
+    for count in (0, 16, 17, 2**40, LARGEST):
         yield from (Sent(count, value, 8_640_000, 1) for value in (0, 1, 4430, 10**15))
     for count in range(1, 16):
         power = 10**count
         values = (0, power // 10 - 1, power // 10, power - 1, power, power + 4430)
         yield from (Sent(count, value, 8_640_000, 1) for value in values)
-    for value in (2**32 + 4430, 2**63 - 1, 10**18, 4430 + 2**16):
-        yield Sent(4, value, 8_640_000, 1)
+    yield from (Sent(4, value, 8_640_000, 1) for value in (10**18, LARGEST))
     yield from (Sent(len(digits), int(digits), 8_640_000, 1) for digits in ("04430", "0", "00", "2", "23", "234", LONGEST))
+
+
+def wide_rows():
+    """A good call with one bit more in one of its numbers, past the number's range: a narrower number would lose it."""
+    good = call("4430", 100, 61)
+    for name, least in (("count", 4), ("value", 14), ("moment", 33), ("duration", 20)):
+        yield from (good._replace(**{name: getattr(good, name) + 2**bit}) for bit in range(least, 63))
 
 
 def moment_rows():
     """41, and the days on both sides of each change."""
     end = book.END_OF_MOMENTS
     for number in ("4430", "1", "98", LONGEST):
-        moments = (0, end - 86_401, end - 86_400, end - 1, end, end + 1, 2**32, 2**33, end + 2**32, end + 2**33, 2**40, LARGEST)
+        moments = (0, end - 86_401, end - 86_400, end - 1, end, end + 1, 2**32, LARGEST)
         yield from (Sent(len(number), int(number), moment, 61) for moment in moments)
     for digits, day, _ in BOOK:
         for number in (digits, (digits + "6" * 15)[:15]):
@@ -256,7 +262,7 @@ def duration_rows():
     for number in ("4420", "4430", "23480", "44409", "4460", LONGEST):
         for duration in (0, 1, 29, 30, 31, 36, 37, 59, 60, 61, 120, 121, 254, 255, 256, 510, 511, 604_799, 604_800, 604_801):
             yield call(number, 100, duration)
-        yield from (call(number, 100, duration) for duration in (2**16 + 604_801, 2**32, 2**32 + 61, LARGEST))
+        yield from (call(number, 100, duration) for duration in (2**32, LARGEST))
 
 
 def order_rows():
@@ -271,7 +277,7 @@ def row_edges(script):
     rated(script, EXAMPLES)
     for each in EXAMPLES:
         rated(script, [each], more=3)
-    for rows in (number_rows(), moment_rows(), duration_rows(), order_rows()):
+    for rows in (number_rows(), wide_rows(), moment_rows(), duration_rows(), order_rows()):
         calls = list(rows)
         for at in range(0, len(calls), 8):
             rated(script, calls[at : at + 8])
@@ -317,9 +323,11 @@ def count_edges(script):
         script.batch(b"\x00\x00", lent)
     for calls in (EXAMPLES[1:2], EXAMPLES[:3]):
         there = len(calls)
-        for count in (0, there - 1, there + 1, 65_535, 65_536, 65_537, 2**16 + there, 2**32 + there, LARGEST):
+        for count in (0, there - 1, there + 1, 65_535, 65_536, 65_537, LARGEST):
             for lent in (0, 4 * there, 4 * count if count < 9 else 40):
                 script.batch(sent(calls, count), lent)
+    for bit in range(4, 63):
+        script.batch(sent(EXAMPLES[1:2], 1 + 2**bit), 4)
 
 
 def room_edges(script):
@@ -404,7 +412,7 @@ def listed(script, day, sizes):
         script.list(day, lent)
 
 
-BEYOND = [60_001, 65_000, 65_001, 2**16 + 100, 2**32 + 100, 2**63, 2**64 - 1]
+BEYOND = [60_001, 65_000, 65_001, 2**63, 2**64 - 1]
 
 
 def list_edges(script):
@@ -429,6 +437,8 @@ def list_edges(script):
     size = list_size(script.words(), 100)
     for lent in range(size + 2):
         script.list(100, lent)
+    for bit in range(16, 64):
+        script.list(100 + 2**bit, size)
     # A line count of one byte and of two.
     for count in (127, 128):
         entries = [(f"44{i:03}", 100 + i % 2, BLOCKED if i % 3 else open_at(i, 1 + i, 255 - i)) for i in range(count)]
@@ -455,7 +465,7 @@ class Chance(histories.Chance):
 
     def entries(self, base, large):
         made = []
-        for digits in self.pool(large):
+        for digits in sorted({code for _ in range(3 if large else 1) for code in self.pool(large)}):
             day, before = base + self.below(9), CLOSED
             for _ in range(self.below(4)):
                 if day <= book.LAST_DAY:
@@ -464,7 +474,8 @@ class Chance(histories.Chance):
                 day += 1 + self.below(9)
         return made[: (WORDS - 6) // 3]
 
-    def number(self):  # a number of any size, as a batch can send it
+    def number(self):
+        """A number of any size that a batch can send."""
         return super().number() >> 1
 
     def call(self, entries):
