@@ -1,15 +1,15 @@
 -- The answer and the bytes of a list by the tests of the code, and its length. Assumes nothing.
 use mathlib.Core.Path.{_≡_, refl, ap, ap₂, sym, _∙_}
 use mathlib.Core.Bool.{Bool, true, false, cond}
-use mathlib.Core.List.{List, [], _∷_, _++_}
+use mathlib.Core.List.{List, _++_}
 use Prim.Native.Nat.{ℕ, _+_, _*_, _≤_, _<_}
 use native.Mathlib.Omega.{arith}
-use borrow.Author.Tests.{eq-eqb, ne-eqb, le-leb, lt-leb, leb-true}
+use borrow.Author.Tests.{eq-eqb, ne-eqb, eqb-true, eqb-false, le-leb, lt-leb, leb-true}
 use lib.Dec.{eqb, leb}
-use lib.ListN.{length, drop, length-append}
+use lib.ListN.{length, length-append}
 use lib.Seq.{sets, sets-eq, length-sets}
 use Rattle.refusal.specs.Refusal.{bufferTooShort, timeOutOfRange, noOffer}
-use Rattle.varint.specs.Several.{encodeAll, sizeOfAll, answerAll, leavesAll}
+use Rattle.varint.specs.Several.{sizeOfAll, answerAll, leavesAll}
 use Rattle.varint.specs.declared.Written.{Written}
 use Rattle.varint.specs.declared.Written.the-variants.{UpTo}
 use Rattle.varint.proofs.Several.{sets-append}
@@ -31,7 +31,7 @@ use Rattle.listing.specs.declared.Listed.{Listed}
 use Rattle.listing.specs.declared.Extent.{Extent}
 use Rattle.listing.proofs.Sizes.{bytes-few}
 use Rattle.listing.proofs.Turns.{written, few}
-use Rattle.listing.proofs.ReadsBack.{list-valid}
+use Rattle.listing.proofs.Validity.{list-valid}
 
 module _ (ws : List ℕ) (day : Day) where
   module _ (room : ℕ) where
@@ -78,6 +78,29 @@ module _ (ws : List ℕ) (day : Day) where
                 ne-eqb (length (standingLines (entriesOf ws) (day .0))) 0 n,
                 le-leb (length (listOf ws day)) room h,
               )
+
+    -- A list that is not refused has a usable book, a day on which it can be received, a line, and room.
+    pub accepted : listRefusal ws day room ≡ 0
+        → (bookRefusal ws ≡ 0) × (isReceivedDay day ≡ true) × (0 < length (standingLines (entriesOf ws) (day .0)))
+        × (length (listOf ws day) ≤ room)
+    accepted q =
+        go (eqb (bookRefusal ws) 0) refl (isReceivedDay day) refl (eqb (length (standingLines (entriesOf ws) (day .0))) 0) refl
+        (leb (length (listOf ws day)) room) refl (sym refusal-test ∙ q)
+      where
+        go :
+            (t : Bool) → eqb (bookRefusal ws) 0 ≡ t
+            → (u : Bool) → isReceivedDay day ≡ u
+            → (v : Bool) → eqb (length (standingLines (entriesOf ws) (day .0))) 0 ≡ v
+            → (w : Bool) → leb (length (listOf ws day)) room ≡ w
+            → _≡_ {A = ℕ} (cond t (cond u (cond v noOffer (cond w 0 bufferTooShort)) timeOutOfRange) (bookRefusal ws)) 0
+            → (bookRefusal ws ≡ 0) × (isReceivedDay day ≡ true) × (0 < length (standingLines (entriesOf ws) (day .0)))
+            × (length (listOf ws day) ≤ room)
+        go true a true b false c true d e =
+            (eqb-true _ 0 a, b, positive (eqb-false _ 0 c), leb-true _ room d)
+        go true a true b false c false d e = absurd (omega arith)
+        go true a true b true c w d e = absurd (omega arith)
+        go true a false b v c w d e = absurd (omega arith)
+        go false a u b v c w d e = absurd (eqb-false _ 0 a e)
 
   -- An answer and the bytes left, as the contract has them: of a refused list, and of one that is written.
   module _ (out : List ℕ) where

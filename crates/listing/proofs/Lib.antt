@@ -2,5 +2,8 @@
 pub mod Passing
 pub mod Sizes
 pub mod Turns
-pub mod ReadsBack
+pub mod Validity
 pub mod Answering
+pub mod ReadsBack
+pub mod Relisting
+pub mod Relisted

@@ -6,7 +6,6 @@ use Prim.Native.Nat.{ℕ, suc, _≤_, _<_}
 use native.Mathlib.Omega.{arith}
 use borrow.Author.Tests.{eq-eqb, ne-eqb, eqb-true, eqb-false, leb-true, leb-false, lt-ltb, le-ltb}
 use lib.Dec.{eqb, leb, ltb}
-use lib.ListN.{length}
 use Rattle.dial_code.proofs.Tests.{and-left-true, and-left-false, and-right-true, and-right-false}
 use Rattle.rate.specs.OfferWord.{offerOf, wordOf}
 use Rattle.rate.specs.declared.Offer.{Offer}
@@ -14,15 +13,13 @@ use Rattle.rate.specs.declared.Offer.the-variants.{Closed, Blocked, Open}
 use Rattle.rate.specs.declared.Stored.{Stored}
 use Rattle.rate.specs.declared.Stored.the-variants.{Holds, Invalid}
 use Rattle.rate.proofs.Words.{only-word}
-use Rattle.notice.specs.LineRule.{lineOf}
 use Rattle.notice.specs.declared.Line.{Line}
 use Rattle.book.specs.Soundness.{isHeld, isOfferWord}
 use Rattle.book.specs.Status.{statusFrom, statusIn, heldOffer, offerIn, isStanding}
 use Rattle.book.specs.declared.Entry.{Entry}
-use Rattle.book.proofs.Rows.{entryIn}
 use Rattle.book.proofs.SoundLists.{After, same, next, Allowed, SoundFrom, Sound, after-key}
-use Rattle.book.proofs.Statuses.{Before, smaller, begins-later}
-use Rattle.listing.specs.List.{codesOf, lineFor, linesFor, standingLines}
+use Rattle.book.proofs.Statuses.{smaller, begins-later}
+use Rattle.listing.specs.List.{codesOf, codeLine, linesFor, standingLines}
 use Rattle.listing.specs.Pass.{isReplaced, stands, entryLine, addedBy}
 
 -- What each entry adds, one after the other.
@@ -47,7 +44,7 @@ stands-word w h = go (offerOf w) refl h
     go (Holds o) e f = by o (only-word w o e .0)
     go Invalid e f = absurd (false≢true f)
 
-closed-line : (k : ℕ) → lineFor k (offerAt 0) ≡ []
+closed-line : (k : ℕ) → codeLine k (offerAt 0) ≡ []
 unfolding offerOf
 closed-line k = refl
 
@@ -66,24 +63,24 @@ module _ (day : ℕ) where
   -- is after the day.
   pending : ℕ → ℕ → List Entry → List Line
   pending k w [] = []
-  pending k w (f ∷ fs) = cond (eqb k (f .key) && ltb day (f .day)) (lineFor k (offerAt w)) []
+  pending k w (f ∷ fs) = cond (eqb k (f .key) && ltb day (f .day)) (codeLine k (offerAt w)) []
 
   none-pending : (k : ℕ) (es : List Entry) → pending k 0 es ≡ []
   unfolding pending
   none-pending k [] = refl
   none-pending k (f ∷ fs) = go (eqb k (f .key) && ltb day (f .day))
     where
-      go : (t : Bool) → cond t (lineFor k (offerAt 0)) [] ≡ []
+      go : (t : Bool) → cond t (codeLine k (offerAt 0)) [] ≡ []
       go true = closed-line k
       go false = refl
 
   module _ (e : Entry) (es : List Entry) where
     -- what the rule gives for an entry's code of status v, at the entry or later
     given : ℕ → List Line
-    given v = cond (nextSame e es) (pending (e .key) v es) (lineFor (e .key) (offerAt v))
+    given v = cond (nextSame e es) (pending (e .key) v es) (codeLine (e .key) (offerAt v))
 
     data Next : Type 0 where
-      kept : ((v : ℕ) → given v ≡ lineFor (e .key) (offerAt v)) → isReplaced e es day ≡ false → Next
+      kept : ((v : ℕ) → given v ≡ codeLine (e .key) (offerAt v)) → isReplaced e es day ≡ false → Next
       gone : ((v : ℕ) → given v ≡ []) → isReplaced e es day ≡ true → e .day ≤ day → Next
 
   -- The entry after another is of another code, or after the day, or takes its place.
@@ -108,7 +105,7 @@ module _ (day : ℕ) where
   none-same : (e : Entry) (es : List Entry) (v : ℕ) → nextSame e es ≡ false → pending (e .key) v es ≡ []
   unfolding pending nextSame
   none-same e [] v q = refl
-  none-same e (f ∷ fs) v q = ap (λ (t : Bool). cond t (lineFor (e .key) (offerAt v)) []) (and-left-false _ q)
+  none-same e (f ∷ fs) v q = ap (λ (t : Bool). cond t (codeLine (e .key) (offerAt v)) []) (and-left-false _ q)
 
   ends : (e : Entry) (es : List Entry) (v : ℕ) → SoundFrom (e .key) (suc (e .day)) (e .offer) es → nextSame e es ≡ false
       → statusFrom v es (e .key) day ≡ v
@@ -131,13 +128,14 @@ module _ (day : ℕ) where
       v : ℕ
       v = cond (eqb k (e .key)) w 0
 
-      begun : (t : Bool) → eqb k (e .key) ≡ t → lineFor (e .key) (offerAt (cond t w 0)) ≡ cond (t && true) (lineFor k (offerAt w)) []
-      begun true q = ap (λ (x : ℕ). lineFor x (offerAt w)) (sym (eqb-true k (e .key) q))
+      begun : (t : Bool) → eqb k (e .key) ≡ t
+          → codeLine (e .key) (offerAt (cond t w 0)) ≡ cond (t && true) (codeLine k (offerAt w)) []
+      begun true q = ap (λ (x : ℕ). codeLine x (offerAt w)) (sym (eqb-true k (e .key) q))
       begun false q = closed-line (e .key)
 
       -- nothing is pending where the entry is not after the day
-      none : e .day ≤ day → cond (eqb k (e .key) && ltb day (e .day)) (lineFor k (offerAt w)) [] ≡ []
-      none z = ap (λ (x : Bool). cond x (lineFor k (offerAt w)) []) (and-right-false (eqb k (e .key)) (le-ltb day (e .day) z))
+      none : e .day ≤ day → cond (eqb k (e .key) && ltb day (e .day)) (codeLine k (offerAt w)) [] ≡ []
+      none z = ap (λ (x : Bool). cond x (codeLine k (offerAt w)) []) (and-right-false (eqb k (e .key)) (le-ltb day (e .day) z))
 
       go : (t : Bool) → leb (e .day) day ≡ t → Next e es
           → given e es (cond t (e .offer) v) ≡ pending k w (e ∷ es) ++ addedBy e es day
@@ -149,11 +147,13 @@ module _ (day : ℕ) where
           ∙ sym (ap (λ (x : List Line). x ++ addedBy e es day) (none (leb-true _ _ q)))
       go true q (gone g r z) =
           g (e .offer)
-          ∙ sym (ap (λ (x : Bool). cond x (entryLine e ∷ []) []) (and-left-true _ q ∙ and-right-false (not (eqb (e .offer) 0)) (ap not r)))
+          ∙ sym
+          (ap (λ (x : Bool). cond x (entryLine e ∷ []) [])
+          (and-left-true _ q ∙ and-right-false (not (eqb (e .offer) 0)) (ap not r)))
           ∙ sym (ap (λ (x : List Line). x ++ addedBy e es day) (none z))
       go false q (kept g r) =
           g v ∙ begun (eqb k (e .key)) refl
-          ∙ sym (ap (λ (x : Bool). cond (eqb k (e .key) && x) (lineFor k (offerAt w)) []) (lt-ltb day (e .day) (leb-false _ _ q)))
+          ∙ sym (ap (λ (x : Bool). cond (eqb k (e .key) && x) (codeLine k (offerAt w)) []) (lt-ltb day (e .day) (leb-false _ _ q)))
           ∙ sym (append-nil (pending k w (e ∷ es)))
           ∙ sym (ap (λ (x : Bool). pending k w (e ∷ es) ++ cond x (entryLine e ∷ []) []) (and-left-false _ q))
       go false q (gone g r z) = absurd (omega (arith, leb-false (e .day) day q))
@@ -192,18 +192,20 @@ module _ (day : ℕ) where
         ∙ ap (λ (ls : List Line). ls ++ passed es day) (ap (given e es) own ∙ here k n o (before k) e es a l (next? e es s))
         ∙ append-assoc (pending k (before k) (e ∷ es)) (addedBy e es day) (passed es day)
       where
+        at-test : {t : Bool} → nextSame e es ≡ t
+            → cond t (pending (e .key) (after (e .key)) es) (codeLine (e .key) (offerAt (after (e .key)))) ≡ given e es (after (e .key))
+        at-test q = ap (λ (t : Bool). cond t (pending (e .key) (after (e .key)) es) (codeLine (e .key) (offerAt (after (e .key))))) (sym q)
+
         go : (t : Bool) → nextSame e es ≡ t
             → linesFor status (cond t (codesOf es) (e .key ∷ codesOf es)) ≡ given e es (after (e .key)) ++ passed es day
         go true q =
             on
-            ∙ ap (λ (t : Bool). cond t (pending (e .key) (after (e .key)) es) (lineFor (e .key) (offerAt (after (e .key)))) ++ passed es day)
-            (sym q)
+            ∙ ap (λ (ls : List Line). ls ++ passed es day) (at-test q)
         go false q =
-            ap (λ (w : ℕ). lineFor (e .key) (offerAt w) ++ linesFor status (codesOf es)) (ends e es (after (e .key)) s q)
-            ∙ ap (λ (ls : List Line). lineFor (e .key) (offerAt (after (e .key))) ++ ls)
+            ap (λ (w : ℕ). codeLine (e .key) (offerAt w) ++ linesFor status (codesOf es)) (ends e es (after (e .key)) s q)
+            ∙ ap (λ (ls : List Line). codeLine (e .key) (offerAt (after (e .key))) ++ ls)
             (on ∙ ap (λ (ls : List Line). ls ++ passed es day) (none-same e es (after (e .key)) q))
-            ∙ ap (λ (t : Bool). cond t (pending (e .key) (after (e .key)) es) (lineFor (e .key) (offerAt (after (e .key)))) ++ passed es day)
-            (sym q)
+            ∙ ap (λ (ls : List Line). ls ++ passed es day) (at-test q)
 
   -- After key k, with the statuses so far `before` and none of a larger key: what the rule gives for the codes of some entries is
   -- what is pending and what the pass adds.
@@ -213,7 +215,8 @@ module _ (day : ℕ) where
   passes k n o before [] s z = refl
   passes k n o before (e ∷ es) s z =
       step k n o before z e es (s .0) (s .1) (s .2)
-      (passes (e .key) (suc (e .day)) (e .offer) (after k n o before z e es (s .0)) es (s .2) (none-larger k n o before z e es (s .0)))
+      (passes (e .key) (suc (e .day)) (e .offer) (after k n o before z e es (s .0)) es (s .2)
+      (none-larger k n o before z e es (s .0)))
 
 -- The lines of the standing list of sound entries are what the entries add.
 pub in-one-pass : (es : List Entry) (day : ℕ) → Sound es → standingLines es day ≡ passed es day

@@ -1,9 +1,9 @@
 -- The line of any entry has an encoding, of at most 72 bytes; so what the entries add takes few lines and few bytes.
 -- Assumes nothing.
 use mathlib.Core.Path.{_≡_, refl, ap, sym, _∙_}
-use mathlib.Core.Bool.{Bool, true, false, cond}
+use mathlib.Core.Bool.{Bool, true, false}
 use mathlib.Core.List.{List, [], _∷_, _++_, append-nil}
-use Prim.Native.Nat.{ℕ, _+_, _*_, _^_, _≤_, _<_}
+use Prim.Native.Nat.{ℕ, _*_, _^_, _≤_, _<_}
 use native.Mathlib.Nat.{pow-le-pow-right}
 use native.Mathlib.Omega.{arith}
 use lib.Dec.{lit<}
@@ -12,10 +12,9 @@ use Rattle.varint.specs.Several.{encodeAll, encodableAll, sizeOfAll}
 use Rattle.varint.proofs.Laws.{size}
 use Rattle.varint.proofs.Several.{all-nil, all-sized, bytes-nil, length-bytes-cons}
 use Rattle.dial_code.specs.Digits.{value}
-use Rattle.dial_code.specs.Key.{keysEnd, digitsOfKey, placesOf}
+use Rattle.dial_code.specs.Key.{keysEnd, placesOf}
 use Rattle.dial_code.specs.Code.{codeOf}
-use Rattle.dial_code.specs.declared.Code.{Code}
-use Rattle.dial_code.proofs.Tests.{Order, below, equal, above, order}
+use Rattle.dial_code.proofs.Tests.{below, equal, above, order}
 use Rattle.dial_code.proofs.DigitLaws.{value-below}
 use Rattle.dial_code.proofs.CountryLaws.{all-places}
 use Rattle.dial_code.proofs.CodeLaws.{length-places, digits-places}
@@ -74,7 +73,8 @@ bytes-few [] = omega (arith, ap length bytes-nil)
 bytes-few (n ∷ ns) = omega (arith, length-bytes-cons n ns, size n, bytes-few ns)
 
 module _ (e : Entry) where
-  line-is : lineFields (entryLine e) ≡ codeOf (e .key) .count ∷ codeOf (e .key) .value ∷ offerFields (offerAt (e .offer)) ++ (0 ∷ [])
+  line-is : lineFields (entryLine e)
+      ≡ codeOf (e .key) .count ∷ codeOf (e .key) .value ∷ offerFields (offerAt (e .offer)) ++ (0 ∷ [])
   unfolding entryLine
   line-is = line-opens (entryLine e)
 
@@ -121,7 +121,8 @@ module _ (e : Entry) (es : List Entry) (day : ℕ) where
       go false q = rw (adds-none q, lines-nil) (omega arith)
 
 -- The pass adds at most one line an entry, of at most 72 bytes.
-pub passed-few : (es : List Entry) (day : ℕ) → (length (passed es day) ≤ length es) × (length (encodeLines (passed es day)) ≤ 72 * length es)
+pub passed-few : (es : List Entry) (day : ℕ)
+    → (length (passed es day) ≤ length es) × (length (encodeLines (passed es day)) ≤ 72 * length es)
 unfolding passed
 passed-few [] day = rw lines-nil (omega arith)
 passed-few (e ∷ es) day =

@@ -1,11 +1,11 @@
 -- The pass over a book's words: one entry's test, one turn of measuring and of writing, and the whole. Assumes nothing.
 use mathlib.Core.Path.{_≡_, refl, ap, sym, _∙_}
-use mathlib.Core.Bool.{Bool, true, false, cond, _&&_, not}
+use mathlib.Core.Bool.{Bool, true, false, not}
 use mathlib.Core.List.{List, [], _∷_, _++_}
 use Prim.Native.Nat.{ℕ, _+_, _-_, _*_, _≤_, _<_}
 use native.Mathlib.Omega.{arith}
 use borrow.Author.Tests.{le-leb, lt-leb, leb-true, leb-false, lt-ltb, le-ltb, eq-eqb, ne-eqb}
-use lib.Dec.{eqb, leb, ltb}
+use lib.Dec.{leb, ltb}
 use lib.ListN.{length, length-append}
 use lib.Seq.{sets, sets-eq, length-sets}
 use Rattle.varint.specs.Several.{encodeAll, encodableAll, answerAll, leavesAll}
@@ -30,7 +30,7 @@ use Rattle.listing.specs.List.{standingLines}
 use Rattle.listing.specs.Pass.{isReplaced, stands, entryLine, addedBy, extentOf}
 use Rattle.listing.specs.declared.Extent.{Extent}
 use Rattle.listing.proofs.Passing.{passed, in-one-pass}
-use Rattle.listing.proofs.Sizes.{entry-encodable, entry-sized, one-line, adds-none, adds-one, passed-few}
+use Rattle.listing.proofs.Sizes.{entry-encodable, one-line, adds-none, adds-one, passed-few}
 
 -- Whether an entry stands, by the tests of the code.
 module _ (e : Entry) (es : List Entry) (day : ℕ) where
@@ -182,6 +182,7 @@ module _ (ws : List ℕ) (day : ℕ) (s : sound ws ≡ true) where
       × (length (encodeLines (standingLines (entriesOf ws) day)) ≤ 72 * mostEntries)
   few =
       let p = passed-few (entriesOf ws) day in
-      rw (in-one-pass (entriesOf ws) day (entries-sound ws s))
-      (omega (arith, length-entries ws, sound-book ws s .header .count-most),
-      omega (arith, length-entries ws, sound-book ws s .header .count-most))
+      rw (in-one-pass (entriesOf ws) day (entries-sound ws s)) (
+        omega (arith, length-entries ws, sound-book ws s .header .count-most),
+        omega (arith, length-entries ws, sound-book ws s .header .count-most),
+      )

@@ -1,9 +1,9 @@
 -- The standing list of a day (document 01, "Charging and writing"): a full notice received on that day, with each open or
 -- blocked code, rates with 8 decimals, no listed days.
 use mathlib.Core.Path.{_≡_, refl}
-use mathlib.Core.Bool.{Bool, cond}
-use mathlib.Core.List.{List, [], _∷_, _++_, map}
-use Prim.Native.Nat.{ℕ, _-_}
+use mathlib.Core.Bool.{cond}
+use mathlib.Core.List.{List, [], _∷_, _++_}
+use Prim.Native.Nat.{ℕ}
 use lib.Dec.{eqb, leb}
 use lib.ListN.{length, drop, replicate}
 use Rattle.refusal.specs.Refusal.{bufferTooShort, timeOutOfRange, noOffer}
@@ -14,31 +14,31 @@ use Rattle.rate.specs.Price.{rate}
 use Rattle.rate.specs.OfferWord.{offerOf}
 use Rattle.rate.specs.declared.Day.{Day}
 use Rattle.rate.specs.declared.Offer.{Offer}
-use Rattle.rate.specs.declared.Offer.the-variants.{Closed, Blocked, Open}
+use Rattle.rate.specs.declared.Offer.the-variants.{Blocked, Open}
 use Rattle.notice.specs.LineRule.{lineOf}
 use Rattle.notice.specs.NoticeRule.{full, Notice}
 use Rattle.notice.specs.Layout.{encodeNotice}
 use Rattle.notice.specs.declared.Line.{Line}
-use Rattle.book.specs.Layout.{entry, entriesOf}
+use Rattle.book.specs.Layout.{entriesOf}
 use Rattle.book.specs.Status.{offerIn, isStanding}
 use Rattle.book.specs.Answers.{bookRefusal}
 use Rattle.book.specs.declared.Entry.{Entry}
 use Rattle.listing.specs.declared.Listed.{Listed}
 
--- The keys of a book's codes in the order of its entries, each once: that of an entry whose successor has another.
+-- The keys of a book's codes in the order of its entries, each once: that of an entry whose successor has another or is none.
 unfoldable pub codesOf : List Entry → List ℕ
 codesOf [] = []
 codesOf (e ∷ []) = e .key ∷ []
 codesOf (e ∷ f ∷ es) = cond (eqb (e .key) (f .key)) (codesOf (f ∷ es)) (e .key ∷ codesOf (f ∷ es))
 
 -- The line of a code with a status, which has no listed day: none where the status is closed.
-abbrev pub lineFor : ℕ → Offer → List Line
-lineFor k o = cond (isStanding o) (lineOf k o 0 ∷ []) []
+abbrev pub codeLine : ℕ → Offer → List Line
+codeLine k o = cond (isStanding o) (lineOf k o 0 ∷ []) []
 
 -- The lines of some codes, from the statuses of codes.
 unfoldable pub linesFor : (ℕ → Offer) → List ℕ → List Line
 linesFor status [] = []
-linesFor status (k ∷ ks) = lineFor k (status k) ++ linesFor status ks
+linesFor status (k ∷ ks) = codeLine k (status k) ++ linesFor status ks
 
 -- A line for each code that is open or blocked on a day.
 unfoldable pub standingLines : List Entry → ℕ → List Line
@@ -81,3 +81,80 @@ unfoldable pub listBytes : List ℕ → Day → List ℕ → List ℕ
 unfolding listRefusal
 listBytes ws day out =
     cond (eqb (listRefusal ws day (length out)) 0) (listOf ws day ++ drop (length (listOf ws day)) out) out
+
+-- 1 open from day 100 on, 44 blocked from day 50 on, 7 open from day 10 to 89, 91 open from day 200 on
+some : List ℕ
+some =
+    5
+    ∷ 7
+    ∷ 100
+    ∷ 200
+    ∷ key (1 ∷ [])
+    ∷ 100
+    ∷ 589824000259
+    ∷ key (4 ∷ 4 ∷ [])
+    ∷ 50
+    ∷ 1
+    ∷ key (7 ∷ [])
+    ∷ 10
+    ∷ 259
+    ∷ key (7 ∷ [])
+    ∷ 90
+    ∷ 0
+    ∷ key (9 ∷ 1 ∷ [])
+    ∷ 200
+    ∷ 259
+    ∷ []
+
+abbrev on : ℕ → Day
+on n = record { 0 = n }
+
+codes : codesOf (entriesOf some) ≡ key (1 ∷ []) ∷ key (4 ∷ 4 ∷ []) ∷ key (7 ∷ []) ∷ key (9 ∷ 1 ∷ []) ∷ []
+unfolding codesOf entriesOf some key
+codes = refl
+
+-- on day 100, and one day before 7 closes
+lines-on :
+    standingLines (entriesOf some) 100 ∷ standingLines (entriesOf some) 89 ∷ []
+    ≡ (lineOf (key (1 ∷ [])) (Open (rate 9000000) 1 1) 0 ∷ lineOf (key (4 ∷ 4 ∷ [])) Blocked 0 ∷ [])
+    ∷ (lineOf (key (4 ∷ 4 ∷ [])) Blocked 0 ∷ lineOf (key (7 ∷ [])) (Open (rate 0) 1 1) 0 ∷ [])
+    ∷ []
+unfolding standingLines entriesOf some key offerOf
+lines-on = refl
+
+list-100 : List ℕ
+list-100 = 1 ∷ 100 ∷ 2 ∷ 1 ∷ 1 ∷ 2 ∷ 8 ∷ 0xC0 ∷ 0xA8 ∷ 0xA5 ∷ 0x04 ∷ 1 ∷ 1 ∷ 0 ∷ 2 ∷ 44 ∷ 1 ∷ 0 ∷ []
+
+sent : listOf some (on 100) ≡ list-100
+unfolding listOf list-100 some key offerOf
+sent = refl
+
+-- exact room and one byte short; nothing standing on day 9; the last day of a list and the day after
+answers :
+    listAnswer some (on 100) 18
+    ∷ listAnswer some (on 100) 17
+    ∷ listAnswer some (on 9) 0
+    ∷ listAnswer some (on 60000) 28
+    ∷ listAnswer some (on 60001) 28
+    ∷ []
+    ≡ listed 0 18 ∷ listed 23 0 ∷ listed 43 0 ∷ listed 0 28 ∷ listed 41 0 ∷ []
+unfolding listAnswer some key isCodeKey offerOf
+answers = refl
+
+-- a book under four words, and one that is not sound, before a day beyond the last; an empty book
+refusals :
+    listAnswer (0 ∷ 7 ∷ 0 ∷ []) (on 60001) 0
+    ∷ listAnswer (0 ∷ 366 ∷ 0 ∷ 0 ∷ []) (on 60001) 0
+    ∷ listAnswer (0 ∷ 7 ∷ 0 ∷ 0 ∷ []) (on 60001) 0
+    ∷ listAnswer (0 ∷ 7 ∷ 0 ∷ 0 ∷ []) (on 60000) 0
+    ∷ []
+    ≡ listed 20 0 ∷ listed 21 0 ∷ listed 41 0 ∷ listed 43 0 ∷ []
+unfolding listAnswer offerOf
+refusals = refl
+
+-- two bytes more than the list, and one too few
+left :
+    listBytes some (on 100) (replicate 20 9) ∷ listBytes some (on 100) (replicate 17 9) ∷ []
+    ≡ (list-100 ++ (9 ∷ 9 ∷ [])) ∷ replicate 17 9 ∷ []
+unfolding listBytes list-100 some key isCodeKey offerOf
+left = refl

@@ -32,7 +32,10 @@ struct Extent {
 fn refused(e: u64) -> Listed
     ensures { λ r. ⌜ r ≡ listed e 0 ⌝ }
 {
-    Listed { refusal: e, length: 0 }
+    Listed {
+        refusal: e,
+        length: 0,
+    }
 }
 
 fn entry_at(words: &[u64], at: usize) -> Entry
@@ -100,11 +103,20 @@ fn measure_at(words: &[u64], at: usize, left: usize, e: Entry, day: u64) -> Exte
 }
 
 // Writes what an entry adds to the list at a place of the lent bytes, and gives the place after it.
-fn write_at(words: &[u64], at: usize, left: usize, e: Entry, day: u64, out: &mut [u8], from: usize) -> usize
+fn write_at(
+    words: &[u64],
+    at: usize,
+    left: usize,
+    e: Entry,
+    day: u64,
+    out: &mut [u8],
+    from: usize,
+) -> usize
     requires { ⌜ at + left * entryWords ≤ length (now words) ⌝ }
     requires { ⌜ from + length (encodeLines (addedBy e (entriesFrom (now words) at left) day)) ≤ length (now out) ⌝ }
     ensures { λ r. ⌜ r ≡ from + length (encodeLines (addedBy e (entriesFrom (now (words .entry)) at left) day)) ⌝ }
-    ensures { λ _. ⌜ now (out .exit) ≡ sets (now (out .entry)) from (encodeLines (addedBy e (entriesFrom (now (words .entry)) at left) day)) ⌝ }
+    ensures { λ _. ⌜ now (out .exit) ≡ sets (now (out .entry)) from
+        (encodeLines (addedBy e (entriesFrom (now (words .entry)) at left) day)) ⌝ }
 {
     if !is_standing(words, at, left, e, day) {
         return from;
@@ -140,7 +152,8 @@ fn measure(words: &[u64], day: u64) -> Extent
 fn write_lines(words: &[u64], day: u64, out: &mut [u8], from: usize)
     requires { ⌜ sound (now words) ≡ true ⌝ }
     requires { ⌜ from + length (encodeLines (standingLines (entriesOf (now words)) day)) ≤ length (now out) ⌝ }
-    ensures { λ _. ⌜ now (out .exit) ≡ sets (now (out .entry)) from (encodeLines (standingLines (entriesOf (now (words .entry))) day)) ⌝ }
+    ensures { λ _. ⌜ now (out .exit) ≡ sets (now (out .entry)) from
+        (encodeLines (standingLines (entriesOf (now (words .entry))) day)) ⌝ }
 {
     let mut end = from;
     let mut at = book::HEADER_WORDS;

@@ -1,45 +1,29 @@
-use mathlib.Core.Path.{_≡_, refl, ap, sym, _∙_}
-use mathlib.Core.Bool.{Bool, true, false, not}
-use mathlib.Core.List.{List, [], _∷_, _++_}
-use mathlib.Core.Logic.{⊎-elim}
-use Prim.Native.Nat.{ℕ, zero, suc, _+_, _-_, _*_, _/_, _≤_, _<_}
-use native.Mathlib.Omega.{arith}
-use native.Mathlib.Numerals.{add-one, sub-one}
-use borrow.Author.Needs.{needs}
-use borrow.Author.Tests.{lt-ltb, le-ltb, le-leb, lt-leb, eq-eqb, ne-eqb}
-use lib.ListN.{length, getD, drop, take, set, length-set}
-use lib.Dec.{eqb, leb, ltb}
+-- is_standing meets its contract: after the day, closed, no entry after it, one of another code, one of the same.
+-- Assumes nothing.
+use mathlib.Core.Path.{ap, sym, _∙_}
+use mathlib.Core.Bool.{not}
 use borrow.Author.Needs.{needs}
 use Rattle.listing.proofs.is_standing.Statement.{statement}
 use Rattle.listing.proofs.is_standing.Tie as tie
-use Rattle.listing.proofs.is_standing.Reads as reads
-use Rattle.listing.proofs.is_standing.Lts as lts
-use Rattle.listing.proofs.entry_at.Reads as entry-at-reads
 use Rattle.book.proofs.Rows.{rows-none}
 use Rattle.dial_code.proofs.Tests.{positive}
 use Rattle.listing.proofs.Turns.{after-day, closed, unless-replaced, none-next, other-next, same-next, row}
 
-
--- src/lib.rt:55:9
 returns : tie.Need-returns
 returns c = sym (after-day _ _ _ (c .if1 .taken))
 
--- src/lib.rt:58:9
 returns-2 : tie.Need-returns-2
 returns-2 c = sym (closed _ _ _ (c .if2 .taken))
 
--- src/lib.rt:61:9
 returns-3 : tie.Need-returns-3
 returns-3 c =
     sym
     (unless-replaced _ _ _ (c .before .before .before .if1 .left) (c .before .if2 .left)
     ∙ ap not (none-next _ _ _ (rows-none _ _ _ (c .if3 .taken))))
 
--- src/lib.rt:63:9
 entry-at-requires : tie.Need-entry-at-requires
 entry-at-requires c κs = search needs
 
--- src/lib.rt:65:9
 returns-4 : tie.Need-returns-4
 returns-4 c =
     let d = c .before .before .before in
@@ -47,13 +31,13 @@ returns-4 c =
     (unless-replaced _ _ _ (d .before .before .before .before .if1 .left) (d .before .before .if2 .left)
     ∙ ap not (other-next _ _ _ _ _ (row _ _ _ (positive (d .before .if3 .left)) (d .entry-at .ensures)) (c .if4 .taken)))
 
--- src/lib.rt:50:1
 returns-5 : tie.Need-returns-5
-returns-5 c = 
+returns-5 c =
     let d = c .before .before .before .before in
+    let q = row _ _ _ (positive (d .before .if3 .left)) (d .entry-at .ensures) in
     sym
     (unless-replaced _ _ _ (d .before .before .before .before .if1 .left) (d .before .before .if2 .left)
-    ∙ same-next _ _ _ (d .entry-at .result) _ (row _ _ _ (positive (d .before .if3 .left)) (d .entry-at .ensures)) (c .before .if4 .left))
+    ∙ same-next _ _ _ (d .entry-at .result) _ q (c .before .if4 .left))
 
 pub is-standing-spec : {M : Type 1} → statement M
 is-standing-spec =

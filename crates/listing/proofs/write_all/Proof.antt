@@ -1,21 +1,11 @@
-use mathlib.Core.Path.{_≡_, refl, ap, sym, _∙_}
-use mathlib.Core.Bool.{Bool, true, false}
-use mathlib.Core.List.{List, [], _∷_, _++_}
-use mathlib.Core.Logic.{⊎-elim}
-use Prim.Native.Nat.{ℕ, zero, suc, _+_, _-_, _*_, _/_, _≤_, _<_}
+-- write_all meets its contract: the fields before the lines, then the lines; both have room. Assumes nothing.
+use mathlib.Core.Path.{_≡_}
+use Prim.Native.Nat.{_+_, _<_}
 use native.Mathlib.Omega.{arith}
-use native.Mathlib.Numerals.{add-one, sub-one}
 use borrow.Author.Needs.{needs}
-use borrow.Author.Tests.{lt-ltb, le-ltb, le-leb, lt-leb, eq-eqb, ne-eqb}
-use lib.ListN.{length, getD, drop, take, set, length-set}
-use lib.Dec.{eqb, leb, ltb}
-use borrow.Author.Needs.{needs}
+use lib.ListN.{length}
 use Rattle.listing.proofs.write_all.Statement.{statement}
 use Rattle.listing.proofs.write_all.Tie as tie
-use Rattle.listing.proofs.write_all.Reads as reads
-use Rattle.listing.proofs.write_all.Lts as lts
-use Rattle.listing.proofs.write_lines.Reads as write-lines-reads
-use Rattle.notice.proofs.write_header.Reads as write-header-reads
 use Rattle.listing.proofs.Turns.{up-to, some-room, small-enough}
 use Rattle.listing.proofs.Answering.{header-written, lines-fit, all-written}
 use Rattle.book.specs.Layout.{entriesOf}
@@ -39,20 +29,19 @@ started c =
     let w = c .write-header .ensures in
     header-written _ _ (p .0 .0) (p .0 .1) (some-line c) _ (p .1 .1) _ (p .1 .0 .0) (w .0) (w .1)
 
--- src/lib.rt:163:11
 write-header-requires : tie.Need-write-header-requires
 write-header-requires c κs = search needs
 
--- src/lib.rt:164:23
 enum-known-at : tie.Need-enum-known-at
 enum-known-at c = search needs
 
--- src/lib.rt:164:30
 write-lines-requires : tie.Need-write-lines-requires
 write-lines-requires c κs =
     let p = c .before .before .before .before .before .before .before .before .before .before .pre in
-    let w = started (c .before .before .before .before .before .before) in
-    (p .0 .0, lines-fit _ _ (p .0 .0) (p .0 .1) (some-line (c .before .before .before .before .before .before)) _ (p .1 .1) (up-to (w .0) (c .before .before .at .given .1)) (w .1))
+    let d = c .before .before .before .before .before .before in
+    let w = started d in
+    let at = up-to (w .0) (c .before .before .at .given .1) in
+    (p .0 .0, lines-fit _ _ (p .0 .0) (p .0 .1) (some-line d) _ (p .1 .1) at (w .1))
 
 enum-told : tie.Need-enum-told
 enum-told c = search needs
@@ -60,31 +49,27 @@ enum-told c = search needs
 enum-told-2 : tie.Need-enum-told-2
 enum-told-2 c = search needs
 
--- src/lib.rt:157:1
 same-length : tie.Need-same-length
 same-length c = search needs
 
--- src/lib.rt:157:1
 returns : tie.Need-returns
 returns c =
     let p = c .before .before .before .before .before .before .before .before .before .before .before .before .before .pre in
-    let w = started (c .before .before .before .before .before .before .before .before .before) in
-    all-written _ _ (p .0 .0) (p .0 .1) (some-line (c .before .before .before .before .before .before .before .before .before)) _ (p .1 .1) (up-to (w .0) (c .before .before .before .before .before .at .given .1)) (w .1)
+    let d = c .before .before .before .before .before .before .before .before .before in
+    let w = started d in
+    let at = up-to (w .0) (c .before .before .before .before .before .at .given .1) in
+    all-written _ _ (p .0 .0) (p .0 .1) (some-line d) _ (p .1 .1) at (w .1)
     (c .before .before .write-lines .ensures)
 
--- src/lib.rt:157:1
 same-length-2 : tie.Need-same-length-2
 same-length-2 c = search needs
 
--- src/lib.rt:157:1
 returns-2 : tie.Need-returns-2
 returns-2 c = some-room (started (c .before .before .before .before) .0) (c .enum-told .given .1)
 
--- src/lib.rt:157:1
 same-length-3 : tie.Need-same-length-3
 same-length-3 c = search needs
 
--- src/lib.rt:157:1
 returns-3 : tie.Need-returns-3
 returns-3 c = small-enough (started (c .before .before .before .before) .0) (c .enum-told2 .given .1)
 
