@@ -9,7 +9,7 @@ use native.Mathlib.Omega.{arith}
 use borrow.Author.Tests.{eq-eqb, le-leb}
 use lib.Dec.{leb}
 use lib.ListN.{length}
-use Rattle.dial_code.specs.Digits.{digitOf}
+use Rattle.dial_code.specs.Digits.{digitOf, isDialled}
 use Rattle.rate.specs.Time.{isDay, lastReceivedDay}
 use Rattle.rate.specs.declared.Day.{Day}
 use Rattle.rate.specs.declared.Offer.{Offer}
@@ -18,7 +18,7 @@ use Rattle.notice.specs.NoticeRule.{Notice, Reading, notice, readNotice}
 use Rattle.notice.specs.Layout.{encodeNotice}
 use Rattle.book.specs.Layout.{headerWords, held, entriesOf}
 use Rattle.book.specs.Status.{offerIn, answer, longest, matched}
-use Rattle.book.specs.Answers.{freshRefusal, freshBook, bookRefusal, isDialled, lookup}
+use Rattle.book.specs.Answers.{freshRefusal, freshBook, bookRefusal, lookup}
 use Rattle.book.specs.declared.Lookup.the-variants.{Found}
 use Rattle.book.proofs.Lookups.{answered}
 use Rattle.history.specs.ChangeDays.{changeDays}
