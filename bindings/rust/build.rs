@@ -1,13 +1,16 @@
 // Links librate_book.a: from the folder that RATE_BOOK_LIB_DIR names, else from where `rt staticlib rate_book` writes it.
 use std::env;
-use std::path::{Path, PathBuf};
+use std::path::PathBuf;
 
 fn main() {
     println!("cargo:rerun-if-env-changed=RATE_BOOK_LIB_DIR");
     let folder = match env::var_os("RATE_BOOK_LIB_DIR") {
         Some(folder) => PathBuf::from(folder),
-        None => Path::new(env!("CARGO_MANIFEST_DIR")).join("../../target/staticlib"),
+        None => {
+            PathBuf::from(env::var_os("CARGO_MANIFEST_DIR").unwrap()).join("../../target/staticlib")
+        }
     };
+    let folder = folder.canonicalize().unwrap_or(folder);
     let archive = folder.join("librate_book.a");
     if !archive.is_file() {
         eprintln!(
