@@ -39,8 +39,8 @@
  *   batch    number of calls, 0 to 65,535; for each, digit count and value of the number, moment, duration
  *
  * Refusals
- * Each call answers with a refusal number, 0 for none: the first in the call's order whose cause holds. With a refusal all else in
- * the answer is 0 (but the key of a blocked call), and all lent memory is left as it was.
+ * Each call but rate_book_words answers with a refusal number, 0 for none: the first in the call's order whose cause holds. With a
+ * refusal all else in the answer is 0 (but the key of a blocked call), and all lent memory is left as it was.
  */
 #ifndef RATE_BOOK_H
 #define RATE_BOOK_H
@@ -56,25 +56,25 @@ enum rate_book_refusal {
     RATE_BOOK_NOT_REFUSED = 0,
 
     /* The supplier or the call feed. */
-    RATE_BOOK_BYTES_END = 1,        /* bytes end before a due field's end, short of nine bytes */
-    RATE_BOOK_NOT_SHORTEST = 2,     /* a number not in its shortest form, or a ninth byte with its top bit set */
-    RATE_BOOK_UNKNOWN_KIND = 3,     /* unknown kind of notice, or status of a line */
-    RATE_BOOK_OUT_OF_RANGE = 4,     /* a field outside its range */
-    RATE_BOOK_CODE_NOT_ALLOWED = 5, /* a code not allowed, or a replacement country that is not exactly a country code */
-    RATE_BOOK_KEYS_NOT_RISING = 6,  /* a line's key not above the one before it */
-    RATE_BOOK_OUTSIDE_COUNTRY = 7,  /* a line outside the replacement's country */
-    RATE_BOOK_DAYS_DIFFER = 8,      /* replacement lines whose last fields differ */
-    RATE_BOOK_BYTES_LEFT = 9,       /* bytes after the end */
-    RATE_BOOK_RECEIVED_EARLIER = 10, /* a notice received before the last accepted notice */
+    RATE_BOOK_BYTES_END = 1,          /* bytes end before a due field's end, short of nine bytes */
+    RATE_BOOK_NOT_SHORTEST = 2,       /* a number not in its shortest form, or a ninth byte with its top bit set */
+    RATE_BOOK_UNKNOWN_KIND = 3,       /* unknown kind of notice, or status of a line */
+    RATE_BOOK_OUT_OF_RANGE = 4,       /* a field outside its range */
+    RATE_BOOK_CODE_NOT_ALLOWED = 5,   /* a code not allowed, or a replacement country that is not exactly a country code */
+    RATE_BOOK_KEYS_NOT_RISING = 6,    /* a line's key not above the one before it */
+    RATE_BOOK_OUTSIDE_COUNTRY = 7,    /* a line outside the replacement's country */
+    RATE_BOOK_DAYS_DIFFER = 8,        /* replacement lines whose last fields differ */
+    RATE_BOOK_BYTES_LEFT = 9,         /* bytes after the end */
+    RATE_BOOK_RECEIVED_EARLIER = 10,  /* a notice received before the last accepted notice */
 
     /* The host. */
-    RATE_BOOK_BOOK_TOO_SHORT = 20,   /* a book under four words */
-    RATE_BOOK_BOOK_NOT_SOUND = 21,   /* a book that is not sound */
-    RATE_BOOK_PERIOD_TOO_LONG = 22,  /* a notice period above 365 */
-    RATE_BOOK_BUFFER_TOO_SHORT = 23, /* rows or list buffer too short */
+    RATE_BOOK_BOOK_TOO_SHORT = 20,    /* a book under four words */
+    RATE_BOOK_BOOK_NOT_SOUND = 21,    /* a book that is not sound */
+    RATE_BOOK_PERIOD_TOO_LONG = 22,   /* a notice period above 365 */
+    RATE_BOOK_BUFFER_TOO_SHORT = 23,  /* rows or list buffer too short */
 
     /* Supplier and host together. */
-    RATE_BOOK_BOOK_FULL = 30, /* more entries than the new book holds; lend a longer one */
+    RATE_BOOK_BOOK_FULL = 30,         /* more entries than the new book holds */
 
     /* The caller. */
     RATE_BOOK_NOT_A_NUMBER = 40,      /* a number empty, over 15 digits, with a non-digit or starting with 0 */

@@ -13,7 +13,7 @@
 #define WORDS (RATE_BOOK_HEADER_WORDS + ROOM * RATE_BOOK_ENTRY_WORDS)
 
 enum { FULL = 1, PARTIAL = 2, UPDATE = 3 }; /* kinds of notice */
-enum { BLOCK = 1, RATE = 2 };                /* statuses of lines */
+enum { BLOCK = 1, RATE = 2 };               /* statuses of lines */
 
 /* The names that the host gives to codes. */
 static const struct {

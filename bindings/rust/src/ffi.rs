@@ -103,8 +103,8 @@ pub fn fresh(book: &mut [u64], notice_period: u64) -> u64 {
 }
 
 pub fn apply(old: &[u64], notice: &[u8], new: &mut [u64]) -> Applied {
-    // SAFETY: each pointer and length are of one slice, borrowed until the call returns. Only `new` is written; it is borrowed for
-    // writing, so it overlaps neither `old` nor `notice`.
+    // SAFETY: each pointer and length are of one slice, borrowed until the call returns. Only `new` is written; it is
+    // borrowed for writing, so it overlaps neither `old` nor `notice`.
     unsafe {
         rate_book_apply(
             old.as_ptr(),
@@ -145,8 +145,8 @@ pub fn rate_call(book: &[u64], number: &[u8], moment: u64, duration: u64) -> Cal
 }
 
 pub fn rate_batch(book: &[u64], batch: &[u8], rows: &mut [u64]) -> Batch {
-    // SAFETY: each pointer and length are of one slice, borrowed until the call returns. Only `rows` is written; it is borrowed for
-    // writing, so it overlaps neither `book` nor `batch`.
+    // SAFETY: each pointer and length are of one slice, borrowed until the call returns. Only `rows` is written; it is
+    // borrowed for writing, so it overlaps neither `book` nor `batch`.
     unsafe {
         rate_book_rate_batch(
             book.as_ptr(),
@@ -160,7 +160,7 @@ pub fn rate_batch(book: &[u64], batch: &[u8], rows: &mut [u64]) -> Batch {
 }
 
 pub fn list(book: &[u64], day: u64, out: &mut [u8]) -> Listed {
-    // SAFETY: each pointer and length are of one slice, borrowed until the call returns. Only `out` is written; it is borrowed for
-    // writing, so it does not overlap `book`.
+    // SAFETY: each pointer and length are of one slice, borrowed until the call returns. Only `out` is written; it is
+    // borrowed for writing, so it does not overlap `book`.
     unsafe { rate_book_list(book.as_ptr(), book.len(), day, out.as_mut_ptr(), out.len()) }
 }

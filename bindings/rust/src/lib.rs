@@ -224,9 +224,9 @@ pub fn fresh(book: &mut [u64], notice_period: u64) -> Result<(), Refusal> {
 /// Applies a notice to an old book and writes the book after it into every word of the new one, which may be longer or shorter.
 /// After a refusal the old book stays the current one.
 ///
-/// Refused, in this order, by [`Refusal::BookTooShort`] and [`Refusal::BookNotSound`] for the old book, [`Refusal::BookTooShort`] for
-/// the new one, the refusals 1 to 8 of the notice's fields, [`Refusal::BytesLeft`], [`Refusal::ReceivedEarlier`] and
-/// [`Refusal::BookFull`].
+/// Refused, in this order, by [`Refusal::BookTooShort`] and [`Refusal::BookNotSound`] for the old book,
+/// [`Refusal::BookTooShort`] for the new one, the refusals 1 to 8 of the notice's fields, [`Refusal::BytesLeft`],
+/// [`Refusal::ReceivedEarlier`] and [`Refusal::BookFull`].
 ///
 /// ```
 /// use rate_book::{Day, Refusal};
@@ -287,8 +287,8 @@ pub fn lookup(book: &[u64], number: &[u8], day: Day) -> Result<Answer, Refusal> 
     })
 }
 
-/// Rates one call to a number, in ASCII digits, by its first moment and its duration of 0 to 604,800 seconds. The start day prices
-/// all of it; a duration of 0 is charged 0 but needs an offer. Each call tests the whole book; [`rate_batch`] tests it once.
+/// Rates one call to a number, in ASCII digits, by its first moment and its duration of 0 to 604,800 seconds. The start day
+/// prices all of it; a duration of 0 is charged 0 but needs an offer. Each call tests the whole book; [`rate_batch`] tests it once.
 ///
 /// Refused, in this order, by [`Refusal::BookTooShort`], [`Refusal::BookNotSound`], [`Refusal::NotANumber`],
 /// [`Refusal::TimeOutOfRange`], [`Refusal::DurationTooLong`], [`Refusal::NoOffer`] and [`Refusal::OfferBlocked`].
