@@ -165,6 +165,7 @@ static void time_writing(size_t entries)
 int main(int argc, char **argv)
 {
     const size_t reading[] = {1000, 10000, 60000}, writing[] = {1000, 10000, 65535};
+    printf("# %d rounds\n", ROUNDS);
     check_random(2000);
     if (argc > 1 && strcmp(argv[1], "check") == 0)
         return 0;

@@ -72,7 +72,7 @@ def power(decade):
     return names[decade]
 
 
-def panel(out, left, top, width, height, title, points):
+def panel(out, left, top, width, height, title, x_label, y_label, points):
     ys = [v for _, a, b in points for v in (a, b)]
     low, high = math.floor(math.log10(min(ys))), math.ceil(math.log10(max(ys)))
     x_low, x_high = math.log10(700), math.log10(95000)
@@ -93,6 +93,10 @@ def panel(out, left, top, width, height, title, points):
         out.append(f'<line x1="{at:.1f}" y1="{top}" x2="{at:.1f}" y2="{top + height}" class="grid"/>')
         out.append(f'<text x="{at:.1f}" y="{top + height + 17}" class="tick" text-anchor="middle">{size:,}</text>')
     out.append(f'<rect x="{left}" y="{top}" width="{width}" height="{height}" class="frame"/>')
+    out.append(f'<text x="{left + width / 2}" y="{top + height + 37}" class="note" text-anchor="middle">{x_label}</text>')
+    middle = top + height / 2
+    out.append(f'<text x="{left - 66}" y="{middle}" class="note" text-anchor="middle" transform="rotate(-90 {left - 66} {middle})">'
+               f"{y_label}</text>")
     for column, colour, dash in ((2, PLAIN, ' stroke-dasharray="6 4"'), (1, LIBRARY, "")):
         places = [(x(p[0]), y(p[column])) for p in points]
         path = " ".join(f"{a:.1f},{b:.1f}" for a, b in places)
@@ -104,14 +108,13 @@ def panel(out, left, top, width, height, title, points):
                 out.append(f'<rect x="{a - 4:.1f}" y="{b - 4:.1f}" width="8" height="8" fill="white" stroke="{colour}" stroke-width="2"/>')
     for size, library, plain in points:
         at = y(max(library, plain)) - 10
-        anchor = "middle"
         if at < top + 14:
             at = y(min(library, plain)) + 20
-        out.append(f'<text x="{x(size):.1f}" y="{at:.1f}" class="ratio" text-anchor="{anchor}">{library / plain:.2f}</text>')
+        out.append(f'<text x="{x(size):.1f}" y="{at:.1f}" class="ratio" text-anchor="middle">{library / plain:.2f}</text>')
 
 
 def plot(results):
-    columns, width, height, gap_x, gap_y, left, top = 4, 225, 170, 85, 92, 85, 108
+    columns, width, height, gap_x, gap_y, left, top = 3, 215, 165, 90, 100, 95, 135
     rows = math.ceil(len(OPERATIONS) / columns)
     total_x = left + columns * (width + gap_x) - gap_x + 30
     total_y = top + rows * (height + gap_y) - gap_y + 62
@@ -127,15 +130,14 @@ def plot(results):
         f'<text x="{left - 12}" y="62" class="note">library</text>',
         f'<line x1="{left + 60}" y1="57" x2="{left + 100}" y2="57" stroke="{PLAIN}" stroke-width="2" stroke-dasharray="6 4"/>',
         f'<rect x="{left + 76}" y="53" width="8" height="8" fill="white" stroke="{PLAIN}" stroke-width="2"/>',
-        f'<text x="{left + 108}" y="62" class="note">plain C; the small numbers are library divided by plain. '
-        "Both scales are logarithmic; medians of processor time, buffers warm.</text>",
+        f'<text x="{left + 108}" y="62" class="note">plain C</text>',
+        f'<text x="{left - 60}" y="88" class="note">Medians of processor time, buffers warm; both scales are logarithmic. '
+        "The small numbers are library divided by plain.</text>",
     ]
     for i, (name, title, _) in enumerate(OPERATIONS):
-        panel(out, left + i % columns * (width + gap_x), top + i // columns * (height + gap_y), width, height, title, results[name])
-        if i + columns >= len(OPERATIONS):
-            label = "lines of the notice" if name == "first" else "entries of the book"
-            out.append(f'<text x="{left + i % columns * (width + gap_x) + width / 2}" '
-                       f'y="{top + i // columns * (height + gap_y) + height + 40}" class="note" text-anchor="middle">{label}</text>')
+        label = "lines of the notice" if name == "first" else "entries of the book"
+        panel(out, left + i % columns * (width + gap_x), top + i // columns * (height + gap_y), width, height, title, label,
+              "time a call" if i % columns == 0 else "", results[name])
     out.append("</svg>")
     return "\n".join(out) + "\n"
 
@@ -153,7 +155,7 @@ PAGE = """# Benchmarks
 
 - Each call as a C program makes it, from the exported function to its answer. The library is the archive that `rt staticlib` writes; the
   plain implementation is compiled with `-O2`.
-- Processor time of the process, so that other work on the machine counts little. {rounds} rounds, library and plain in turn, each long
+- Processor time of the process, so that other work on the machine counts little. {rounds}, library and plain in turn, each long
   enough for the clock; the median counts.
 - Buffers are warm: both have run on the same input before the clock starts, and every round has the same input. At 1,000 entries the
   processor has learned the input's branches too; from 10,000 on it has not.
@@ -179,10 +181,10 @@ def main():
     results = read(path)
     rows = table(results)
     print(as_text(rows))
-    compared = next(row[2:].strip() for row in open(path) if row.startswith("#"))
+    rounds, compared = [row[2:].strip() for row in open(path) if row.startswith("#")]
     names = "\n".join(f"- {title}: {what}." for _, title, what in OPERATIONS)
     with open(f"{folder}/BENCHMARKS.md", "w") as f:
-        f.write(PAGE.format(table=as_markdown(rows), rounds=25, machine=machine(), operations=names,
+        f.write(PAGE.format(table=as_markdown(rows), rounds=rounds, machine=machine(), operations=names,
                             compared=compared.split(";")[0]))
     with open(f"{folder}/bench.svg", "w") as f:
         f.write(plot(results))
