@@ -10,7 +10,7 @@ OPERATIONS = [
     ("lookup", "Lookup", "one number of 11 or 12 digits, the test of the book included"),
     ("call", "One call of a batch", "a batch of 65,535 calls less an empty one, divided by 65,535: the test of the book is left out"),
     ("first", "Apply: first full notice", "as many lines as the size says, over a fresh book"),
-    ("full", "Apply: full notice", "nearly every code of the book, in sequence; it closes a tenth of the codes"),
+    ("full", "Apply: full notice", "the codes of the book but a tenth, which it closes"),
     ("partial", "Apply: partial notice", "the same for a third of the countries"),
     ("update-all", "Apply: update of every code", "every code of the book"),
     ("update-100", "Apply: update of 100 codes", "100 lines spread over the book"),
@@ -158,7 +158,7 @@ PAGE = """# Benchmarks
 - Processor time of the process, so that other work on the machine counts little. {rounds}, library and plain in turn, each long
   enough for the clock; the median counts.
 - Buffers are warm: both have run on the same input before the clock starts, and every round has the same input. At 1,000 entries the
-  processor has learned the input's branches too; from 10,000 on it has not.
+  processor then knows the branches too: sixty books of 1,000 entries in turn cost as much an entry as one of 60,000.
 - Machine of this run: {machine}.
 
 Operations:
