@@ -2,8 +2,9 @@
 
     python3 tests/reference/machine.py    run document 01's P1 to P6 and its misreadings through both; an error if one fails
 
-Written from document 01 ("Effective days", "The plain machine", "The book", "Who can cause a refusal") and its readings alone,
-to be read beside them. Python 3, standard library only. It stands on rate_book.py and notice.py, beside it.
+Written from document 01 ("The plain machine", "The book", "Who can cause a refusal") and its readings alone, to be read beside
+them. Python 3, standard library only. It stands on rate_book.py, notice.py and effective_days.py, beside it; the examples are in
+machine_examples.py.
 
 The machine keeps the accepted notices and reads every status off their list. The book is a list of words, and an apply to it
 reads nothing else. A code that no line lists is always closed, and a status changes only on an effective day, so only listed
@@ -14,8 +15,9 @@ from typing import NamedTuple
 
 import notice as notices
 import rate_book as book
-from notice import FULL, PARTIAL, REPLACEMENT, refuse
-from rate_book import CLOSED, Open, Refused
+from effective_days import Change, Effect
+from notice import refuse
+from rate_book import CLOSED, Refused
 
 MOST_PERIOD = 365
 HEADER_WORDS = 4
@@ -30,13 +32,6 @@ class Applied(NamedTuple):
     entries: int
     received: int
     latest: int
-
-
-class Change(NamedTuple):
-    """The status of a code from a day on."""
-
-    day: int
-    status: object
 
 
 class Entry(NamedTuple):
@@ -64,69 +59,6 @@ def longest_match(status, digits):
         if found != CLOSED:
             return Answer(book.key(digits[:length]), found)
     return NONE
-
-
-# Effective days.
-
-
-def wanted_day(notice, line):
-    """The larger of the received day and the listed day, or the received day if none is listed ("Effective days")."""
-    return notice.received if line.listed == 0 else max(notice.received, line.listed - 1)
-
-
-def is_increase(line, before):
-    """Whether a line of a notice in sequence is an increase; `before` is the offer for its code on its wanted day."""
-    if not isinstance(line.status, Open):
-        return True
-    return isinstance(before, Open) and line.status.rate > before.rate
-
-
-class Effect:
-    """What a notice lists and closes, and from which days on ("Effective days").
-
-    It is worked from the notice period, the latest effective day of the lines accepted earlier, and the offer of the book
-    before the notice for a code on a day, by longest match.
-    """
-
-    def __init__(self, notice, period, latest, offer):
-        self.notice = notice
-        floor = notice.received + period
-        wanted = {line.digits: wanted_day(notice, line) for line in notice.lines}
-        self.out_of_sequence = notice.kind != REPLACEMENT and any(day < latest for day in wanted.values())
-        self.increases = set()
-        self.lines = {}
-        for line in notice.lines:
-            day = wanted[line.digits]
-            if notice.kind != REPLACEMENT and not self.out_of_sequence:
-                if is_increase(line, offer(line.digits, day)):
-                    self.increases.add(line.digits)
-                    day = max(day, floor)
-            else:
-                day = max(day, floor)
-            self.lines[line.digits] = Change(day, line.status)
-        # The lines of a replacement agree in their last field.
-        self.closing = max(wanted[notice.lines[0].digits], floor) if notice.kind == REPLACEMENT else floor
-        self.countries = {book.country(line.digits) for line in notice.lines}
-
-    def latest(self):
-        """The latest effective day of a line."""
-        return max(change.day for change in self.lines.values())
-
-    def closes(self, digits):
-        """Whether the notice closes a code that it does not list."""
-        if self.notice.kind == FULL:
-            return True
-        if self.notice.kind == PARTIAL:
-            return book.country(digits) in self.countries
-        if self.notice.kind == REPLACEMENT:
-            return book.country_code(digits) == self.notice.country
-        return False
-
-    def change(self, digits):
-        """What the notice does to a code, or None."""
-        if digits in self.lines:
-            return self.lines[digits]
-        return Change(self.closing, CLOSED) if self.closes(digits) else None
 
 
 # The plain machine.
@@ -340,107 +272,7 @@ def apply(old, data, length):
     return result, words_of(read.period, notice.received, latest, entries, length)
 
 
-# Document 01's examples.
-
-
-class Both:
-    """A machine and a book that are told the same, held against each other at each step."""
-
-    def __init__(self, period, length=400):
-        self.machine = Machine(period)
-        self.words = fresh(length, period)
-
-    def send(self, data):
-        told = self.machine.apply(data, len(self.words))
-        result, words = apply(self.words, data, len(self.words))
-        assert told == result, (told, result)
-        if words is not None:
-            self.words = words
-        assert self.words == self.machine.words(len(self.words))
-        return told
-
-    def offer(self, number, day):
-        told = self.machine.offer(number, day)
-        assert told == look_up(self.words, number.encode(), day)
-        return told
-
-    def rate(self, number, day):
-        return self.offer(number, day).offer.rate
-
-
-def sent(kind, received, *lines, country=None):
-    """A notice of rates with increments 1/1; a line is a code, hundred-millionths (None for a delete) and a listed day."""
-    made = []
-    for digits, per_minute, *listed in lines:
-        status = notices.DELETE if per_minute is None else (8, per_minute, 1, 1)
-        made.append((digits, status, listed[0] + 1 if listed else 0))
-    return notices.write(notices.notice_fields(kind, received, made, country))
-
-
-def examples():
-    update = notices.UPDATE
-    cents = 1_000_000
-
-    # P1, P2 and P3.
-    p1 = bytes.fromhex("03 64 01 05 B8 B7 01 02 02 09 01 01 00")
-    one = Both(7)
-    assert one.send(p1) == (0, 1, 100, 100)
-    assert one.words[:7] == [1, 7, 100, 100, book.key("23480"), 100, 589_824_000_259]
-    assert one.offer("23480", 99) == NONE
-    assert one.send(sent(update, 100, ("234806", 13 * cents))) == (0, 2, 100, 107)
-    assert one.rate("234806121212", 106) == 9 * cents
-    assert one.rate("234806121212", 107) == 13 * cents
-    two = Both(7)
-    assert two.send(sent(update, 100, ("23480", 9 * cents), ("234806", 13 * cents))) == (0, 2, 100, 100)
-    assert two.rate("234806121212", 100) == 13 * cents
-    assert two.offer("234806121212", 99) == NONE
-
-    # P4: five entries, and the latest effective day is the line's.
-    assert two.send(sent(PARTIAL, 110, ("2348", 8 * cents))) == (0, 5, 110, 110)
-    assert two.rate("234806121212", 116) == 13 * cents
-    assert two.rate("234806121212", 117) == 8 * cents
-
-    # P5.
-    five = Both(7)
-    assert five.send(sent(update, 10, ("91", 1 * cents))) == (0, 1, 10, 10)
-    assert five.send(sent(update, 20, ("91", 2 * cents, 27))) == (0, 2, 20, 27)
-    assert five.send(sent(update, 26, ("91", cents // 2, 26))) == (0, 3, 26, 33)
-    assert [five.rate("91", day) for day in (26, 27, 32, 33)] == [1 * cents, 2 * cents, 2 * cents, cents // 2]
-
-    # P6.
-    six = Both(7)
-    assert six.send(sent(update, 10, ("7903", 4 * cents))).refusal == 0
-    assert six.send(sent(update, 10, ("79", 6 * cents))).refusal == 0
-    assert six.rate("7903797979", 10) == 4 * cents
-    assert six.rate("7904", 10) == 6 * cents
-
-    # A received day of 10 and 7 days is 17. A pending rate does not return after a newer notice.
-    other = Both(7)
-    assert other.send(sent(update, 10, ("44", 5 * cents))) == (0, 1, 10, 10)
-    assert other.send(sent(update, 10, ("44", 6 * cents))) == (0, 2, 10, 17)
-    assert other.send(sent(update, 17, ("44", 4 * cents, 17))) == (0, 2, 17, 17)
-    assert other.send(sent(update, 17, ("44", 7 * cents, 30))) == (0, 3, 17, 30)
-    assert other.send(sent(update, 18, ("44", 3 * cents, 29))) == (0, 3, 18, 30)
-    assert [other.rate("44", day) for day in (16, 17, 28, 29, 30)] == [cents * x for x in (5, 4, 4, 3, 3)]
-
-    # Refusals of the machine, in order.
-    assert other.machine.apply(b"", 3) == (20, 0, 0, 0)
-    assert other.machine.apply(b"", 4) == (1, 0, 0, 0)
-    assert other.machine.apply(sent(update, 17, ("44", 1)), 4) == (10, 0, 0, 0)
-    assert other.machine.apply(sent(update, 18, ("44", 1)), 4) == (30, 0, 0, 0)
-
-    # A full notice closes the rest on the floor; a replacement its country on its listed day.
-    assert other.send(sent(FULL, 40, ("91", 1 * cents))) == (0, 5, 40, 40)
-    assert other.rate("44", 46) == 3 * cents
-    assert other.offer("44", 47) == NONE
-    assert other.send(sent(REPLACEMENT, 41, ("9198", 2 * cents, 60), country="91")) == (0, 7, 41, 60)
-    assert other.rate("91", 59) == 1 * cents
-    assert other.offer("91", 60) == NONE
-    assert other.rate("9198", 60) == 2 * cents
-    # Deleted from day 48 on, the pending rate of day 60 never stands.
-    assert other.send(sent(update, 41, ("9198", None))) == (0, 6, 41, 60)
-    assert other.offer("9198", 60) == NONE
-
-
 if __name__ == "__main__":
-    examples()
+    import machine_examples
+
+    machine_examples.examples()
