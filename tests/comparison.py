@@ -1,0 +1,145 @@
+"""The compiled library and the reference, called with the same arguments and held against each other. Nothing to run here:
+tests/evidence.py does."""
+
+import collections
+import functools
+import random
+import struct
+import sys
+
+sys.dont_write_bytecode = True
+
+import histories  # noqa: E402, F401  puts the reference on the path
+from lent import read_only, writable  # noqa: E402
+
+import machine  # noqa: E402
+import notice  # noqa: E402
+import rate_book as book  # noqa: E402
+import rating  # noqa: E402
+from notice import refuse  # noqa: E402
+from rate_book import BLOCKED, CLOSED, Refused  # noqa: E402
+
+ALL_NUMBERS = [0, *range(1, 11), 20, 21, 22, 23, 30, *range(40, 45)]
+
+# The refusal numbers of each call, after "Order" in document 01; of a batch, the rows apart.
+POSSIBLE = {
+    "fresh": [0, 20, 22],
+    "apply": [0, *range(1, 11), 20, 21, 30],
+    "lookup": [0, 20, 21, 40, 41],
+    "rate_call": [0, 20, 21, *range(40, 45)],
+    "rate_batch": [0, 1, 2, 4, 9, 20, 21, 23],
+    "batch rows": [0, *range(40, 45)],
+    "list": [0, 20, 21, 23, 41, 43],
+}
+
+# What writable slices hold before a call.
+MOST_BYTES = 8 * 300_000
+OLD_BYTES = random.Random("lent").randbytes(MOST_BYTES)
+OLD_WORDS = list(struct.unpack(f"<{MOST_BYTES // 8}Q", OLD_BYTES))
+
+# The same keys, books, notices and batches are read again and again.
+for name in ("key", "digits_of_key", "is_code_key"):
+    plain = getattr(book, name)
+    setattr(book, name, functools.lru_cache(maxsize=2**17)(getattr(plain, "__wrapped__", plain)))
+notice.read_notice = functools.lru_cache(maxsize=2)(notice.read_notice)
+rating.read_batch = functools.lru_cache(maxsize=2)(rating.read_batch)
+read_once = functools.lru_cache(maxsize=4)(machine.Read)
+machine.Read = lambda words: read_once(tuple(words))
+
+
+# What the reference answers.
+
+
+def offer_numbers(answer):
+    """An answer as status, rate and increments: 0 closed, 1 blocked, 2 open."""
+    if answer.offer in (CLOSED, BLOCKED):
+        return [answer.key, [CLOSED, BLOCKED].index(answer.offer), 0, 0, 0]
+    return [answer.key, 2, *answer.offer]
+
+
+def fresh(length, period):
+    """Refusal and words of a fresh book."""
+    try:
+        return 0, machine.fresh(length, period)
+    except Refused as refused:
+        return refused.number, OLD_WORDS[:length]
+
+
+def look_up(words, number, day):
+    try:
+        return [0, *offer_numbers(machine.look_up(words, number, day))]
+    except Refused as refused:
+        return [refused.number, 0, 0, 0, 0, 0]
+
+
+def rate_call(words, number, moment, duration):
+    """One call by document 01: 20, 21, then 40 to 44 rising; the key only of a rated or blocked call."""
+    key = 0
+    try:
+        read = machine.Read(words)
+        digits = book.number_digits(number)
+        refuse(41, not book.is_moment(moment))
+        key, offer = read.offer(digits, book.day_of(moment))
+        seconds, charge = book.charge(offer, duration)
+    except Refused as refused:
+        return [refused.number, key if refused.number == 44 else 0, 0, 0]
+    return [0, key, seconds, charge]
+
+
+class Caller:
+    """Makes each call by the library and by the reference. `met` counts refusals by call, `calls` the compared calls."""
+
+    def __init__(self, library):
+        self.library = library
+        self.met = collections.Counter()
+        self.calls = 0
+
+    def compare(self, name, arguments, expected):
+        self.library.call(name, arguments, expected)
+        self.calls += len(self.library.placements)
+        if name in POSSIBLE:
+            self.met[name, expected[0]] += 1
+
+    def words(self, entries):
+        self.compare("words", [entries], [4 + 3 * min(entries, 65_535)])
+
+    def fresh(self, length, period):
+        """The words of the book, None if it is refused."""
+        refusal, left = fresh(length, period)
+        self.compare("fresh", [writable(OLD_WORDS[:length], left), period], [refusal])
+        return left if refusal == 0 else None
+
+    def apply(self, old, data, length):
+        """The answer, and the words of the new book, None if it is refused."""
+        answer, left = machine.apply(old, data, length)
+        before = OLD_WORDS[:length]
+        lent = [read_only(old), read_only(data), writable(before, before if left is None else left)]
+        self.compare("apply", lent, answer)
+        return answer, left
+
+    def look_up(self, words, number, day):
+        answer = look_up(words, number, day)
+        self.compare("lookup", [read_only(words), read_only(number), day], answer)
+        return answer
+
+    def rate_call(self, words, number, moment, duration):
+        answer = rate_call(words, number, moment, duration)
+        self.compare("rate_call", [read_only(words), read_only(number), moment, duration], answer)
+        return answer
+
+    def rate_batch(self, words, data, length):
+        """The answer, and the rows."""
+        before = OLD_WORDS[:length]
+        answer, left = rating.rate_batch(words, data, before)
+        self.compare("rate_batch", [read_only(words), read_only(data), writable(before, left)], answer)
+        if answer.refusal == 0:
+            calls = answer.rated + answer.refused
+            self.met.update(("batch rows", left[4 * i]) for i in range(calls))
+        return answer, left
+
+    def write_list(self, words, day, length):
+        """The answer, and the list's bytes."""
+        before = OLD_BYTES[:length]
+        answer, left = rating.write_list(words, day, before)
+        self.compare("list", [read_only(words), day, writable(before, left)], answer)
+        return answer, left[: answer.length]
