@@ -1,0 +1,65 @@
+-- `batch_vectors::write` is safe and ends, and leaves as many bytes: `i` stays within what is written.
+-- Assumes nothing.
+use Prim.Native.Nat.{_-_, _≤_}
+use lib.ListN.{length}
+use borrow.Author.Needs.{needs}
+use mathlib.Core.Path.{_≡_}
+use Rattle.batch_vectors.proofs.write.Statement.{statement}
+use Rattle.batch_vectors.proofs.write.Tie as tie
+
+abbrev Inv-loop : tie.InvT-loop
+Inv-loop bytes₀ from s at₀ i₀ bytes at i = (i ≤ length s) × (length bytes ≡ length bytes₀)
+
+abbrev μ-loop : tie.MeasureT-loop
+μ-loop bytes₀ from s at₀ i₀ bytes at i = length s - i
+
+loop-holds : tie.Need-loop-holds Inv-loop μ-loop
+loop-holds c = search needs
+
+same-length : tie.Need-same-length Inv-loop μ-loop
+same-length c = search needs
+
+returns : tie.Need-returns Inv-loop μ-loop
+returns c = search needs
+
+shared-slice-read-bytes : tie.Need-shared-slice-read-bytes Inv-loop μ-loop
+shared-slice-read-bytes c = search needs
+
+slice-write-bytes : tie.Need-slice-write-bytes Inv-loop μ-loop
+slice-write-bytes c = search needs
+
+add-at : tie.Need-add-at Inv-loop μ-loop
+add-at c = search needs
+
+add-i : tie.Need-add-i Inv-loop μ-loop
+add-i c = search needs
+
+loop-less : tie.Need-loop-less Inv-loop μ-loop
+loop-less c = search needs
+
+loop-again : tie.Need-loop-again Inv-loop μ-loop
+loop-again c = search needs
+
+same-length-2 : tie.Need-same-length-2 Inv-loop μ-loop
+same-length-2 c = search needs
+
+returns-2 : tie.Need-returns-2 Inv-loop μ-loop
+returns-2 c = search needs
+
+pub write-spec : {M : Type 1} → statement M
+write-spec =
+    tie.close
+    (tie.spec
+    Inv-loop
+    μ-loop
+    loop-holds
+    same-length
+    returns
+    shared-slice-read-bytes
+    slice-write-bytes
+    add-at
+    add-i
+    loop-less
+    loop-again
+    same-length-2
+    returns-2)
