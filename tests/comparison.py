@@ -33,9 +33,15 @@ POSSIBLE = {
 }
 
 # What writable slices hold before a call.
-MOST_BYTES = 8 * 300_000
-OLD_BYTES = random.Random("lent").randbytes(MOST_BYTES)
-OLD_WORDS = list(struct.unpack(f"<{MOST_BYTES // 8}Q", OLD_BYTES))
+MOST_WORDS = 300_000
+OLD_BYTES = random.Random("lent").randbytes(8 * MOST_WORDS)
+OLD_WORDS = list(struct.unpack(f"<{MOST_WORDS}Q", OLD_BYTES))
+
+
+def old_words(length):
+    assert length <= MOST_WORDS
+    return OLD_WORDS[:length]
+
 
 # The same keys, books, notices and batches are read again and again.
 for name in ("key", "digits_of_key", "is_code_key"):
@@ -62,7 +68,7 @@ def fresh(length, period):
     try:
         return 0, machine.fresh(length, period)
     except Refused as refused:
-        return refused.number, OLD_WORDS[:length]
+        return refused.number, old_words(length)
 
 
 def look_up(words, number, day):
@@ -106,13 +112,13 @@ class Caller:
     def fresh(self, length, period):
         """The words of the book, None if it is refused."""
         refusal, left = fresh(length, period)
-        self.compare("fresh", [writable(OLD_WORDS[:length], left), period], [refusal])
+        self.compare("fresh", [writable(old_words(length), left), period], [refusal])
         return left if refusal == 0 else None
 
     def apply(self, old, data, length):
         """The answer, and the words of the new book, None if it is refused."""
         answer, left = machine.apply(old, data, length)
-        before = OLD_WORDS[:length]
+        before = old_words(length)
         lent = [read_only(old), read_only(data), writable(before, before if left is None else left)]
         self.compare("apply", lent, answer)
         return answer, left
@@ -129,7 +135,7 @@ class Caller:
 
     def rate_batch(self, words, data, length):
         """The answer, and the rows."""
-        before = OLD_WORDS[:length]
+        before = old_words(length)
         answer, left = rating.rate_batch(words, data, before)
         self.compare("rate_batch", [read_only(words), read_only(data), writable(before, left)], answer)
         if answer.refusal == 0:
@@ -139,6 +145,7 @@ class Caller:
 
     def write_list(self, words, day, length):
         """The answer, and the list's bytes."""
+        assert length <= len(OLD_BYTES)
         before = OLD_BYTES[:length]
         answer, left = rating.write_list(words, day, before)
         self.compare("list", [read_only(words), day, writable(before, left)], answer)

@@ -6,7 +6,6 @@ import notice
 import notice_vectors
 import rate_book as book
 import rating
-from comparison import rate_call
 from histories import BAD_NUMBERS, GOOD_NUMBERS, LARGEST, rate, room, send, unsound_by_one
 from notice import BLOCK, DELETE, FULL, PARTIAL, REPLACEMENT, UPDATE, lengthened, unended, write
 from notice_vectors import P1, P2, instead
@@ -82,8 +81,8 @@ def pairs(caller):
         answer, rows = caller.rate_batch(words, data, 5)
         assert answer.refusal == 0 and rows[0] == number
     good = batch(call("44", 40, 31))
-    for number, data, length in [(1, good[:-1], 4), (2, b"\x80\x00", 4), (4, b"\x80\x80\x04", 4), (9, good + b"\x00", 4), (23, good, 3)]:
-        assert caller.rate_batch(words, data, length)[0].refusal == number
+    for number, data in {1: good[:-1], 2: b"\x80\x00", 4: b"\x80\x80\x04", 9: good + b"\x00", 23: good}.items():
+        assert caller.rate_batch(words, data, 3)[0].refusal == number
     for number, day, length in [(0, 40, 100), (41, late, 100), (43, 9, 100), (23, 40, 9)]:
         assert caller.write_list(words, day, length)[0].refusal == number
 

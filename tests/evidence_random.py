@@ -112,16 +112,15 @@ class History:
 
     # Arguments.
 
-    def days(self):
-        """Days next to change days, and the ends."""
-        near = [0, self.received, 60_000, 60_001, 65_000, 65_001, 2**32, LARGEST]
-        if machine.book_refusal(self.words) == 0 and self.words[0] > 0:
-            at = [4 + 3 * self.chance.below(self.words[0]) + 1 for _ in range(8)]
-            near += [max(0, self.words[place] + self.chance.pick([-1, 0, 0, 1])) for place in at]
-        return near
-
     def day(self):
-        return self.chance.pick(self.days())
+        """A day next to a change day, as a rule, or at an end."""
+        chance = self.chance
+        if chance.likely(10):
+            return chance.pick([60_001, 65_000, 65_001, 2**16 + 5, 2**32 + 5, LARGEST])
+        if self.words[0] == 0 or chance.likely(15):
+            return chance.pick([0, 60_000, self.received, self.received, self.received + self.words[1]])
+        day = self.words[4 + 3 * chance.below(self.words[0]) + 1]
+        return max(0, day + chance.pick([-1, 0, 0, 1, 7]))
 
     def moment(self):
         chance = self.chance

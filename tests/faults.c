@@ -77,7 +77,8 @@ uint64_t faulty_rate_book_fresh(uint64_t *book, size_t words, uint64_t period) {
     return answer;
 }
 
-struct four faulty_rate_book_apply(const uint64_t *old, size_t words, const uint8_t *notice, size_t bytes, uint64_t *new, size_t room) {
+struct four faulty_rate_book_apply(const uint64_t *old, size_t words, const uint8_t *notice, size_t bytes, uint64_t *new,
+                                   size_t room) {
     struct four answer = rate_book_apply(old, words, notice, bytes, new, room);
     struct slice slices[] = {{old, 8 * words}, {notice, bytes}, {new, 8 * room}};
     fault(APPLY, answer.n, slices);
