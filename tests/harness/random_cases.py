@@ -1,4 +1,4 @@
-"""The random cases of tests/evidence.py: histories, books of no history, damaged books, notices and batches, random bytes and
+"""The random cases of the harness: histories, books of no history, damaged books, notices and batches, random bytes and
 words. Nothing to run here.
 
 A case is worked from its seed and its number alone, so that it can be repeated."""
@@ -263,3 +263,9 @@ def long_case(caller, chance):
     history.words = history.written_book()
     for step in (history.ask, history.good, history.other_book, history.good, history.damaged, history.ask):
         step()
+
+
+def numbered(seed, numbers):
+    """Random cases with their numbers."""
+    for number in numbers:
+        yield number, lambda caller, number=number: random_case(caller, seed, number)

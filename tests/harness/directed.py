@@ -1,4 +1,4 @@
-"""The directed cases of tests/evidence.py: every refusal number from every call that has it, document 01's examples, ranges'
+"""The directed cases of the harness: every refusal number from every call that has it, document 01's examples, ranges'
 ends, cut and damaged bytes, damaged books, long books and batches. Nothing to run here."""
 
 import machine

@@ -5,19 +5,14 @@ import collections
 import functools
 import random
 import struct
-import sys
 
-sys.dont_write_bytecode = True
-
-import histories  # noqa: E402, F401  puts the reference on the path
-from lent import read_only, writable  # noqa: E402
-
-import machine  # noqa: E402
-import notice  # noqa: E402
-import rate_book as book  # noqa: E402
-import rating  # noqa: E402
-from notice import refuse  # noqa: E402
-from rate_book import BLOCKED, CLOSED, Refused  # noqa: E402
+import machine
+import notice
+import rate_book as book
+import rating
+from lent import read_only, writable
+from notice import refuse
+from rate_book import BLOCKED, CLOSED, Refused
 
 ALL_NUMBERS = [0, *range(1, 11), 20, 21, 22, 23, 30, *range(40, 45)]
 
@@ -49,7 +44,8 @@ for name in ("key", "digits_of_key", "is_code_key"):
     setattr(book, name, functools.lru_cache(maxsize=2**17)(getattr(plain, "__wrapped__", plain)))
 notice.read_notice = functools.lru_cache(maxsize=2)(notice.read_notice)
 rating.read_batch = functools.lru_cache(maxsize=2)(rating.read_batch)
-read_once = functools.lru_cache(maxsize=4)(machine.Read)
+PlainRead = machine.Read
+read_once = functools.lru_cache(maxsize=4)(PlainRead)
 machine.Read = lambda words: read_once(tuple(words))
 
 

@@ -1,5 +1,5 @@
-// The calls of the library, each with a fault after it if one was chosen: so tests/evidence.py --self-test sees that the harness
-// finds it. A fault is of one kind, in one call, in one place: a number of its answer, or one of its slices.
+// The calls of the library, each with a fault after it if one was chosen: so the self-test sees that the harness finds it. A
+// fault is of one kind, in one call, in one place: a number of its answer, or one of its slices.
 #include <stddef.h>
 #include <stdint.h>
 
