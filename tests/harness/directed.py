@@ -2,11 +2,9 @@
 ends, cut and damaged bytes, damaged books, long books and batches. Nothing to run here."""
 
 import machine
-import notice
 import notice_vectors
 import rate_book as book
-import rating
-from histories import BAD_NUMBERS, GOOD_NUMBERS, LARGEST, rate, room, send, unsound_by_one
+from histories import BAD_NUMBERS, GOOD_NUMBERS, LARGEST, UNSOUND, rate, room, send, unsound_by_one
 from notice import BLOCK, DELETE, FULL, PARTIAL, REPLACEMENT, UPDATE, lengthened, unended, write
 from notice_vectors import P1, P2, instead
 from rating import Sent, batch_fields, call
@@ -19,7 +17,7 @@ NEXT = send(PARTIAL, 40, ("44", rate(4, 30, 6)), ("449", rate(1)))
 
 
 def small_book(caller):
-    """A sound book of six entries in three codes' lives and one odd word."""
+    """A sound book of six entries, with one word more than they take."""
     _, words = caller.apply(caller.fresh(4, 7), START, room(3, 2))
     _, words = caller.apply(words, NEXT, room(6, 1))
     return words
@@ -47,12 +45,12 @@ def pairs(caller):
     for broken in (words[:3], unsound):
         each_call(caller, broken)
     each_call(caller, words)
-    late = 60_001
+    beyond = book.LAST_RECEIVED_DAY + 1
     sent = {
         1: P1[:-1],
         2: b"\x80\x00" + P1[1:],
         3: b"\x05" + P1[1:],
-        4: send(UPDATE, late, ("44", rate(5))),
+        4: send(UPDATE, beyond, ("44", rate(5))),
         5: send(UPDATE, 100, ("23", rate(5))),
         6: send(UPDATE, 100, ("45", rate(5)), ("45", rate(5))),
         7: send(REPLACEMENT, 100, ("45", rate(5)), country="44"),
@@ -74,16 +72,14 @@ def pairs(caller):
     }
     for number, (digits, moment, duration) in calls.items():
         assert caller.rate_call(words, digits.encode(), moment, duration)[0] == number
-        refused = 41 if number == 41 else 40 if number == 40 else 0
-        day = book.LAST_DAY + 1 if number == 41 else moment // DAY
-        assert caller.look_up(words, digits.encode(), day)[0] == refused
+        assert caller.look_up(words, digits.encode(), moment // DAY)[0] == (number if number in (40, 41) else 0)
         data = batch(Sent(len(digits), int(digits), moment, duration))
         answer, rows = caller.rate_batch(words, data, 5)
         assert answer.refusal == 0 and rows[0] == number
     good = batch(call("44", 40, 31))
     for number, data in {1: good[:-1], 2: b"\x80\x00", 4: b"\x80\x80\x04", 9: good + b"\x00", 23: good}.items():
         assert caller.rate_batch(words, data, 3)[0].refusal == number
-    for number, day, length in [(0, 40, 100), (41, late, 100), (43, 9, 100), (23, 40, 9)]:
+    for number, day, length in [(0, 40, 100), (41, beyond, 100), (43, 9, 100), (23, 40, 9)]:
         assert caller.write_list(words, day, length)[0].refusal == number
 
 
@@ -198,15 +194,17 @@ def numbers_sent(caller):
 def damaged_books(caller):
     """Every clause of "sound" broken by one word."""
     words = small_book(caller)
-    for at, word in unsound_by_one(words):
-        each_call(caller, [*words[:at], word, *words[at + 1 :]])
+    broken = [[*words[:at], word, *words[at + 1 :]] for at, word in unsound_by_one(words)]
+    assert {machine.unsound(damaged) for damaged in broken} == set(UNSOUND)
+    for damaged in broken:
+        each_call(caller, damaged)
     for count in (2**62, 2**63, 2**64 // 3, 2**64 // 3 + 1, (2**64 - 4) // 3, LARGEST - 3, LARGEST):
         for length in (4, 5, 7, len(words)):
             each_call(caller, [count, *words[1:length]])
 
 
 def codes(first, count):
-    """So many codes of four or five digits, by rising key."""
+    """So many codes of five digits, by rising key."""
     return sorted((str(20_000 + first + i) for i in range(count)), key=book.key)
 
 

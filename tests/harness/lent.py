@@ -228,6 +228,8 @@ def describe(name, placement, arguments, wrong):
     for given in arguments:
         if not isinstance(given, Slice):
             lines.append(f"argument {given}")
+        elif given.left is not None:
+            lines.append(f"argument of {len(given.data)} bytes to be written")
         elif given.element == 1:
             lines.append(f"argument of {len(given.data)} bytes: {given.data[:SHOWN].hex(' ')}")
         else:
