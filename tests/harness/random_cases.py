@@ -187,6 +187,20 @@ class History:
     def damaged(self):
         self.send(self.chance.damaged(self.good_fields()))
 
+    def misplaced(self):
+        """A notice with a code, or a last field, that does not go with its other lines, as a rule."""
+        chance = self.chance
+        fields = self.good_fields()
+        if chance.likely(70):
+            fields = next((made for _ in range(9) if (made := self.good_fields())[0].sent == notice.REPLACEMENT), fields)
+        if chance.likely(60):
+            place = chance.pick([place for place, field in enumerate(fields) if field.name == "count"])
+            fields[place : place + 2] = notice.digit_fields("", chance.pick([*self.pool, chance.code()]))
+        else:
+            place = chance.pick([place for place, field in enumerate(fields) if field.name == "listed"])
+            fields[place] = fields[place]._replace(sent=chance.pick([0, fields[place].sent + 1, self.received + 1]))
+        self.send(write(fields))
+
     def back(self):
         """A notice received earlier, as a rule."""
         fields = self.good_fields()
@@ -237,7 +251,7 @@ class History:
         caller.fresh(chance.pick([0, 1, 2, 3, 4, 5, chance.below(600)]), chance.pick([0, 7, 365, 366, 367, chance.number()]))
         caller.words(chance.number())
 
-    STEPS = [good] * 11 + [damaged] * 4 + [back] + [ask] * 3 + [other_book] * 4 + [noise]
+    STEPS = [good] * 10 + [damaged] * 4 + [misplaced] * 2 + [back] + [ask] * 3 + [other_book] * 4 + [noise]
 
 
 def random_case(caller, seed, number):
