@@ -221,9 +221,9 @@ class History:
             caller.rate_call(words, self.number(), self.moment(), self.duration())
         data, calls = self.batch()
         caller.rate_batch(words, data, max(0, 4 * calls + chance.pick([0, 0, 0, 1, 5, -1, -4, -4 * calls])))
-        self.list(words)
+        self.standing_list(words)
 
-    def list(self, words):
+    def standing_list(self, words):
         caller, chance = self.caller, self.chance
         day = self.day()
         answer, _ = rating.write_list(words, day, bytes(20 * len(words)))
