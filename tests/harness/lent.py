@@ -21,7 +21,7 @@ from vectors import ROOT
 PAGE = mmap.PAGESIZE
 READ, WRITE = mmap.PROT_READ, mmap.PROT_WRITE
 PLACEMENTS = AT_END, AT_START = "ending at an untouchable page", "beginning after an untouchable page"
-LONGEST_CALL = 60  # seconds
+LONGEST_CALL = 60  # seconds of processor time
 SHOWN = 400  # bytes of a slice, in a report
 
 libc = ctypes.CDLL(None, use_errno=True)
@@ -174,7 +174,7 @@ ANSWERS = {
 class Library:
     """The functions of a shared object. `mark` is told of each call before it is made, with its arguments if `telling`.
 
-    A call that takes more than the longest time, in seconds, ends the process. `case` is the name of the case under way.
+    A call that takes more than the longest time is ended by SIGPROF. `case` is the name of the case under way.
     """
 
     def __init__(self, path, mark, prefix="", longest=LONGEST_CALL, telling=False):
@@ -211,9 +211,9 @@ class Library:
                     passed += [ctypes.c_void_p(address), ctypes.c_size_t(len(given.data) // given.element)]
             told = describe(name, placement, arguments, []) if self.telling else f"rate_book_{name}, slices {placement}"
             self.mark(f"{self.case}\n{told}")
-            signal.alarm(self.longest)
+            signal.setitimer(signal.ITIMER_PROF, self.longest)
             answer = self.functions[name](*passed)
-            signal.alarm(0)
+            signal.setitimer(signal.ITIMER_PROF, 0)
             found = (answer,) if isinstance(answer, int) else struct.unpack(f"<{ctypes.sizeof(answer) // 8}Q", bytes(answer))
             # All slices are taken back, so that all can be written again, before one is told of.
             wrong = [told for area in lent if area is not None and (told := area.take_back()) is not None]

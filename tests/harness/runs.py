@@ -64,7 +64,8 @@ def in_child(work):
     if not os.WIFSIGNALED(status):
         return Outcome("error", told, case, 0, 0, collections.Counter())
     name = signal.Signals(os.WTERMSIG(status)).name
-    return Outcome(name, f"ended by {name} in {told}", case, 0, 0, collections.Counter())
+    why = "no return in time" if name == "SIGPROF" else f"ended by {name}"
+    return Outcome(name, f"{why}: {told}", case, 0, 0, collections.Counter())
 
 
 def run_cases(library, cases):

@@ -23,6 +23,7 @@ ANSWER_NUMBERS = dict(zip(CALLS, [1, 1, 4, 6, 4, 4, 2]))
 READ_SLICES = {"apply": [0, 1], "lookup": [0, 1], "rate_call": [0, 1], "rate_batch": [0, 1], "list": [0]}
 WRITTEN_SLICES = {"fresh": 0, "apply": 2, "rate_batch": 2, "list": 1}
 STRAY = "SIGSEGV"
+OUT_OF_TIME = "SIGPROF"
 
 
 def faults():
@@ -42,7 +43,7 @@ def faults():
             yield "read before", call, place, AT_START, STRAY
             yield "read after", call, place, AT_END, STRAY
             yield "write read-only", call, place, AT_END, STRAY
-    yield "endless", "list", 0, AT_END, "SIGALRM"
+    yield from (("endless", call, 0, AT_END, OUT_OF_TIME) for call in CALLS)
 
 
 def with_fault(kind, call, place, placement):
@@ -50,7 +51,7 @@ def with_fault(kind, call, place, placement):
     path = shared_object("faulty.so", ROOT / "tests" / "harness" / "faults.c")
 
     def work(mark):
-        library = Library(path, mark, prefix="faulty_", longest=1)
+        library = Library(path, mark, prefix="faulty_", longest=0.3)
         library.placements = [placement]
         library.loaded.choose_fault(KINDS.index(kind), CALLS.index(call), place)
         return run_cases(library, [(case.__name__, case) for case in ([pairs, lengths] if call == "words" else [pairs])])
