@@ -9,3 +9,4 @@ pub mod KeyCode
 pub mod SentNumbers
 pub mod Spelling
 pub mod CountedKeys
+pub mod SentCodes

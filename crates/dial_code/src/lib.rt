@@ -4,7 +4,7 @@ ghost use Prim.Native.Nat.{_<_, _^_};
 ghost use lib.Dec.{eqb};
 ghost use Rattle.dial_code.specs.Key.{codeKey, numberKey, sentNumberKey, prefixKey, key, placesOf};
 ghost use Rattle.dial_code.specs.CountryCode.{countryOf, countryOfKey, twoDigits};
-ghost use Rattle.dial_code.specs.Code.{isCodeKey, codeOf};
+ghost use Rattle.dial_code.specs.Code.{isCodeKey, sentCodeKey, codeOf};
 
 // At most so many digits.
 pub const MOST_DIGITS: u64 = 15;
@@ -127,6 +127,26 @@ pub fn sent_number_key(count: u64, value: u64) -> Keyed
                 return Keyed::Refused(refusal::NOT_A_NUMBER);
             }
             Keyed::Key(key)
+        }
+    }
+}
+
+// The key of an allowed code sent as a count of digits and a value; refusal 4 where one is outside its range, 5 where the digits
+// are no allowed code.
+pub fn sent_code_key(count: u64, value: u64) -> Keyed
+    ensures { λ r. ⌜ r ≡ sentCodeKey count value ⌝ }
+{
+    match code_key(count, value) {
+        Keyed::Refused(e) => Keyed::Refused(e),
+        Keyed::Key(key) => {
+            // The first place holds the digit 0.
+            if key < 2 * FIRST_PLACE {
+                return Keyed::Refused(refusal::CODE_NOT_ALLOWED);
+            }
+            match country_of_key(key) {
+                Country::None => Keyed::Refused(refusal::CODE_NOT_ALLOWED),
+                Country::Code(_) => Keyed::Key(key),
+            }
         }
     }
 }
