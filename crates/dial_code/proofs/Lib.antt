@@ -2,7 +2,6 @@
 pub mod Tests
 pub mod DigitLaws
 pub mod KeyLaws
-pub mod Powers
 pub mod CountryLaws
 pub mod CodeLaws
 pub mod KeyCode
