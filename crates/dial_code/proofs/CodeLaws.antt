@@ -92,12 +92,12 @@ one-more (suc k) w l m h =
     rest = placesOf k (w % firstPlace * 11)
 
 -- whether there is a country
-abbrev isSome : Country → Bool
+abbrev pub isSome : Country → Bool
 isSome (Code n) = true
 isSome None = false
 
 -- a string has a country where it is as long as its country code
-has-country : (ds : List ℕ) → leb (countryDigits ds) (length ds) ≡ isSome (country ds)
+pub has-country : (ds : List ℕ) → leb (countryDigits ds) (length ds) ≡ isSome (country ds)
 unfolding country
 has-country ds = go (leb (countryDigits ds) (length ds))
   where

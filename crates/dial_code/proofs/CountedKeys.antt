@@ -3,11 +3,12 @@ use mathlib.Core.Path.{_≡_, refl, ap, sym, _∙_}
 use mathlib.Core.Bool.{Bool, true, false, cond}
 use mathlib.Core.List.{List, [], _∷_, _++_}
 use Prim.Native.Nat.{ℕ, zero, suc, _+_, _-_, _*_, _/_, _%_, _^_, _≤_, _<_}
-use native.Mathlib.Nat.{pow-suc, pow-le-pow-left, pow-le-pow-right, le-trans, lt-of-le-of-lt}
+use native.Mathlib.Nat.{pow-suc, pow-succ', pow-le-pow-right, one-le-pow}
+use native.Mathlib.Nat.{div-one, div-eq-of-lt, div-div-eq-div-mul, div-lt-iff-lt-mul}
 use native.Mathlib.Omega.{arith}
-use borrow.Author.Tests.{leb-true, lt-leb, le-leb, lt-ltb, le-ltb}
-use lib.Dec.{leb, lit<}
-use lib.ListN.{length}
+use borrow.Author.Tests.{eqb-true, leb-true, lt-leb, le-leb, lt-ltb, le-ltb}
+use lib.Dec.{eqb, leb, lit<}
+use lib.ListN.{length, getD}
 use Rattle.refusal.specs.Refusal.{outOfRange}
 use Rattle.dial_code.specs.Digits.{every, isDigit, digits, isWritten}
 use Rattle.dial_code.specs.Key.{keyFrom, key, codeKey}
@@ -16,7 +17,7 @@ use Rattle.dial_code.specs.declared.Country.the-variants.{None}
 use Rattle.dial_code.specs.declared.Keyed.the-variants.{Key, Refused}
 use Rattle.dial_code.proofs.DigitLaws.{length-digits, digits-last, digits-are}
 use Rattle.dial_code.proofs.KeyLaws.{below-end, digits-back}
-use Rattle.dial_code.proofs.Tests.{both}
+use Rattle.dial_code.proofs.Tests.{both, below, equal, above, order, allBelow, each-below}
 
 key-last : (i d : ℕ) (ds : List ℕ) → keyFrom i (ds ++ (d ∷ [])) ≡ keyFrom i ds + (d + 1) * 11 ^ (15 - (i + length ds))
 unfolding keyFrom
@@ -48,10 +49,31 @@ next-weight k w h l e =
 pub weight-most : (k w : ℕ) → 0 < k → w ≡ 11 ^ (15 - k) → w ≤ 11 ^ 14
 weight-most k w h e = rw e (pow-le-pow-right (lit< tt) {i = 15 - k} {j = 14} (omega arith))
 
--- Powers of up to 15 places are words.
-pub power-fits : (b n : ℕ) → 0 < b → b ≤ 11 → n ≤ 15 → b ^ n < 2 ^ 64
-power-fits b n p h l =
-    lt-of-le-of-lt (le-trans (pow-le-pow-left h n) (pow-le-pow-right (lit< tt) {i = n} {j = 15} l)) (lit< tt)
+-- The table of the places' weights.
+abbrev pub weights : List ℕ
+weights =
+    4177248169415651
+    ∷ 379749833583241
+    ∷ 34522712143931
+    ∷ 3138428376721
+    ∷ 285311670611
+    ∷ 25937424601
+    ∷ 2357947691
+    ∷ 214358881
+    ∷ 19487171
+    ∷ 1771561
+    ∷ 161051
+    ∷ 14641
+    ∷ 1331
+    ∷ 121
+    ∷ 11
+    ∷ 1
+    ∷ []
+
+pub weight-at : (place : ℕ) → place ≤ 15 → getD weights place 0 ≡ 11 ^ (15 - place)
+unfolding allBelow
+weight-at place h =
+    eqb-true _ _ (each-below (λ (k : ℕ). eqb (getD weights k 0) (11 ^ (15 - k))) 16 refl place (omega arith))
 
 -- The key of a code sent so is below the keys' end.
 pub sent-below : (count v : ℕ) → count ≤ 15 → keyFrom 1 (digits count v) < 11 ^ 15
@@ -75,6 +97,30 @@ module _ (count v : ℕ) where
   pub sent : 0 < count → count ≤ 15 → v < 10 ^ count → codeKey count v ≡ Key (keyFrom 1 (digits count v))
   unfolding codeKey
   sent p h l = rw (le-leb 1 count p, le-leb count 15 h, lt-ltb v (10 ^ count) l)
+
+-- The digits left after those weighed: a turn takes the last away, and a value that so many digits can write leaves none.
+pub less-left : (k v : ℕ) {rest : ℕ} → 0 < k → v / 10 ^ k ≡ rest → v / 10 / 10 ^ (k - 1) ≡ rest
+less-left zero v h e = absurd (omega arith)
+less-left (suc k) v h e =
+    let f : suc k - 1 ≡ k = omega arith in
+    rw f (div-div-eq-div-mul v 10 (10 ^ k) ∙ ap (λ (p : ℕ). v / p) (sym (pow-succ' 10 k)) ∙ e)
+
+left-over : (k v : ℕ) {rest : ℕ} → k ≡ 0 → v / 10 ^ k ≡ rest → v ≡ rest
+left-over zero v e q = sym (div-one v) ∙ q
+left-over (suc k) v e q = absurd (omega arith)
+
+pub over : (k v count value : ℕ) → k ≡ 0 → v / 10 ^ k ≡ value / 10 ^ count → 0 < v → 10 ^ count ≤ value
+over k v count value e q h =
+    elim (order value (10 ^ count)) [
+      | below l ↦ absurd (omega (arith, left-over k v e q, div-eq-of-lt l))
+      | equal l ↦ omega arith
+      | above l ↦ omega arith
+    ]
+
+pub none-over : (k v count value : ℕ) → k ≡ 0 → v / 10 ^ k ≡ value / 10 ^ count → v ≤ 0 → value < 10 ^ count
+none-over k v count value e q h =
+    let z : value / 10 ^ count < 1 = omega (arith, left-over k v e q) in
+    omega (arith, div-lt-iff-lt-mul (one-le-pow count 10 (lit< tt)) .0 z)
 
 -- No digit is left to weigh.
 pub all-weighed : (k v weighed : ℕ) {total : ℕ} → k ≡ 0 → weighed + keyFrom 1 (digits k v) ≡ total → weighed ≡ total

@@ -10,23 +10,7 @@ use lib.ListN.{length}
 use Rattle.dial_code.specs.Key.{keysEnd, firstPlace, placesOf, digitsOfKey}
 use Rattle.dial_code.specs.CountryCode.{oneDigit, twoDigits, country, countryOfKey}
 use Rattle.dial_code.specs.declared.Country.the-variants.{Code, None}
-use Rattle.dial_code.proofs.Tests.{both, below, equal, above, order}
-
--- a test that holds of every number below a bound, found by computing it
-allBelow : (ℕ → Bool) → ℕ → Bool
-allBelow f zero = true
-allBelow f (suc n) = f n && allBelow f n
-
-each-below : (f : ℕ → Bool) (n : ℕ) → allBelow f n ≡ true → (k : ℕ) → k < n → f k ≡ true
-unfolding allBelow
-each-below f zero e k h = absurd (omega arith)
-each-below f (suc n) e k h =
-    let p = both (f n) (allBelow f n) e in
-    elim (order k n) [
-      | below l ↦ each-below f n (p .1) k l
-      | equal l ↦ ap f l ∙ p .0
-      | above l ↦ absurd (omega arith)
-    ]
+use Rattle.dial_code.proofs.Tests.{below, equal, above, order, allBelow, each-below}
 
 same : Bool → Bool → Bool
 same true b = b

@@ -2,10 +2,10 @@
 pub mod Tests
 pub mod DigitLaws
 pub mod KeyLaws
-pub mod Powers
 pub mod CountryLaws
 pub mod CodeLaws
 pub mod KeyCode
 pub mod SentNumbers
 pub mod Spelling
 pub mod CountedKeys
+pub mod SentCodes

@@ -32,7 +32,7 @@ by-key (d ∷ ds) e h =
 
 module _ (count v : ℕ) where
   -- A code's key, or that it has none, by the test of its rule.
-  code-test : codeKey count v ≡ cond (isWritten count v) (Key (key (digits count v))) (Refused outOfRange)
+  pub code-test : codeKey count v ≡ cond (isWritten count v) (Key (key (digits count v))) (Refused outOfRange)
   unfolding codeKey
   code-test = refl
 
@@ -42,7 +42,7 @@ module _ (count v : ℕ) where
   unfolding sentNumberKey
   sent-test = refl
 
-  few : isWritten count v ≡ true → count ≤ 15
+  pub few : isWritten count v ≡ true → count ≤ 15
   unfolding isWritten
   few w = leb-true count 15 (both (leb count 15) (ltb v (10 ^ count)) (both (leb 1 count) _ w .1) .0)
 
@@ -57,7 +57,7 @@ module _ (count v : ℕ) where
 
   -- A code's key is a number's where it shows that the first digit is not 0.
   module _ (k : ℕ) (q : codeKey count v ≡ Key k) where
-    told : (isWritten count v ≡ true) × (key (digits count v) ≡ k)
+    pub told : (isWritten count v ≡ true) × (key (digits count v) ≡ k)
     told = go (isWritten count v) refl (sym code-test ∙ q)
       where
         go : (t : Bool) → isWritten count v ≡ t → cond t (Key (key (digits count v))) (Refused outOfRange) ≡ Key k
@@ -65,7 +65,7 @@ module _ (count v : ℕ) where
         go true w r = (w, cc)
         go false w r = let z : _≡_ {A = ℕ} 0 1 = cc in absurd (omega arith)
 
-    numbered : (k < 2 * firstPlace → isNumber (digits count v) ≡ false) × (2 * firstPlace ≤ k → isNumber (digits count v) ≡ true)
+    pub numbered : (k < 2 * firstPlace → isNumber (digits count v) ≡ false) × (2 * firstPlace ≤ k → isNumber (digits count v) ≡ true)
     numbered =
         rw (told .1) at
         (by-key (digits count v) (digits-are count v) (omega (arith, length-digits count v, few (told .0))))

@@ -1,7 +1,7 @@
 -- Tests on numbers, and what they show. Assumes nothing.
-use mathlib.Core.Path.{_≡_, refl, ap, sym}
+use mathlib.Core.Path.{_≡_, refl, ap, sym, _∙_}
 use mathlib.Core.Bool.{Bool, true, false, _&&_, and-eq-true-iff}
-use Prim.Native.Nat.{ℕ, _<_}
+use Prim.Native.Nat.{ℕ, zero, suc, _<_}
 use native.Mathlib.Omega.{arith}
 use borrow.Author.Tests.{eq-eqb, ltb-true, ltb-false, eqb-true}
 use lib.Dec.{eqb, ltb}
@@ -52,3 +52,19 @@ same-test false false f g = refl
 pub same-eqb : (a b c d : ℕ) → (a ≡ b → c ≡ d) → (c ≡ d → a ≡ b) → eqb a b ≡ eqb c d
 same-eqb a b c d f g =
     same-test (eqb a b) (eqb c d) (λ t. eq-eqb c d (f (eqb-true a b t))) (λ t. eq-eqb a b (g (eqb-true c d t)))
+
+-- a test that holds of every number below a bound, found by computing it
+unfoldable pub allBelow : (ℕ → Bool) → ℕ → Bool
+allBelow f zero = true
+allBelow f (suc n) = f n && allBelow f n
+
+pub each-below : (f : ℕ → Bool) (n : ℕ) → allBelow f n ≡ true → (k : ℕ) → k < n → f k ≡ true
+unfolding allBelow
+each-below f zero e k h = absurd (omega arith)
+each-below f (suc n) e k h =
+    let p = both (f n) (allBelow f n) e in
+    elim (order k n) [
+      | below l ↦ each-below f n (p .1) k l
+      | equal l ↦ ap f l ∙ p .0
+      | above l ↦ absurd (omega arith)
+    ]

@@ -5,10 +5,13 @@ use mathlib.Core.List.{List, [], _∷_}
 use Prim.Native.Nat.{ℕ, _+_}
 use lib.ListN.{length}
 use lib.Dec.{eqb, leb, ltb}
-use Rattle.dial_code.specs.Digits.{isNumber, value}
+use Rattle.refusal.specs.Refusal.{outOfRange, codeNotAllowed}
+use Rattle.dial_code.specs.Digits.{digits, isWritten, isNumber, value}
 use Rattle.dial_code.specs.Key.{key, digitsOfKey, keysEnd}
 use Rattle.dial_code.specs.CountryCode.{countryDigits}
 use Rattle.dial_code.specs.declared.Code.{Code}
+use Rattle.dial_code.specs.declared.Keyed.{Keyed}
+use Rattle.dial_code.specs.declared.Keyed.the-variants.{Key, Refused}
 
 -- An allowed code: 1 to 15 digits, the first not 0, and not shorter than its country code (000, 2i).
 unfoldable pub isCode : List ℕ → Bool
@@ -19,6 +22,13 @@ isCode ds = isNumber ds && leb (countryDigits ds) (length ds)
 unfoldable pub isCodeKey : ℕ → Bool
 unfolding key digitsOfKey isCode
 isCodeKey w = eqb (key (digitsOfKey w)) w && isCode (digitsOfKey w)
+
+-- The key of an allowed code sent as a count of digits and a value, or that one is outside its range, or that it is not allowed.
+unfoldable pub sentCodeKey : ℕ → ℕ → Keyed
+unfolding key digits isWritten isCode
+sentCodeKey count v =
+    cond (isWritten count v) (cond (isCode (digits count v)) (Key (key (digits count v))) (Refused codeNotAllowed))
+    (Refused outOfRange)
 
 -- The code that a word is the key of, as it is sent: how many digits it has, and their value.
 unfoldable pub codeOf : ℕ → Code
@@ -58,6 +68,35 @@ code-keys :
     ≡ true ∷ false ∷ false ∷ false ∷ false ∷ false ∷ false ∷ []
 unfolding isCodeKey
 code-keys = refl
+
+-- 1, 234, 44, fifteen digits; counts of 0 and 16, a value too large for its count; 0, 012, 2, 23
+sent-codes :
+    sentCodeKey 1 1
+    ∷ sentCodeKey 3 234
+    ∷ sentCodeKey 2 44
+    ∷ sentCodeKey 15 100000000000000
+    ∷ sentCodeKey 0 0
+    ∷ sentCodeKey 16 1000000000000000
+    ∷ sentCodeKey 1 10
+    ∷ sentCodeKey 1 0
+    ∷ sentCodeKey 3 12
+    ∷ sentCodeKey 1 2
+    ∷ sentCodeKey 2 23
+    ∷ []
+    ≡ Key 759499667166482
+    ∷ Key (key (2 ∷ 3 ∷ 4 ∷ []))
+    ∷ Key (key (4 ∷ 4 ∷ []))
+    ∷ Key (key (1 ∷ 0 ∷ 0 ∷ 0 ∷ 0 ∷ 0 ∷ 0 ∷ 0 ∷ 0 ∷ 0 ∷ 0 ∷ 0 ∷ 0 ∷ 0 ∷ 0 ∷ []))
+    ∷ Refused 4
+    ∷ Refused 4
+    ∷ Refused 4
+    ∷ Refused 5
+    ∷ Refused 5
+    ∷ Refused 5
+    ∷ Refused 5
+    ∷ []
+unfolding sentCodeKey
+sent-codes = refl
 
 -- 23480, 007, and words that are no key: 0, and the keys' end
 sent :

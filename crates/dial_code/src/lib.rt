@@ -1,10 +1,10 @@
 // Digit strings, their keys and their countries (document 01, "Codes and countries").
 ghost use mathlib.Core.Path.{_≡_};
-ghost use Prim.Native.Nat.{_<_, _^_};
+ghost use Prim.Native.Nat.{_-_, _≤_, _<_, _^_};
 ghost use lib.Dec.{eqb};
 ghost use Rattle.dial_code.specs.Key.{codeKey, numberKey, sentNumberKey, prefixKey, key, placesOf};
 ghost use Rattle.dial_code.specs.CountryCode.{countryOf, countryOfKey, twoDigits};
-ghost use Rattle.dial_code.specs.Code.{isCodeKey, codeOf};
+ghost use Rattle.dial_code.specs.Code.{isCodeKey, sentCodeKey, codeOf};
 
 // At most so many digits.
 pub const MOST_DIGITS: u64 = 15;
@@ -14,6 +14,26 @@ pub const KEYS_END: u64 = 4_177_248_169_415_651;
 const FIRST_PLACE: u64 = 379_749_833_583_241;
 
 const THIRD_PLACE: u64 = 3_138_428_376_721;
+// The weight of each place of a key, 11 to the power 15 - place, from place 0 on.
+const WEIGHTS: [u64; 16] = [
+    4_177_248_169_415_651,
+    379_749_833_583_241,
+    34_522_712_143_931,
+    3_138_428_376_721,
+    285_311_670_611,
+    25_937_424_601,
+    2_357_947_691,
+    214_358_881,
+    19_487_171,
+    1_771_561,
+    161_051,
+    14_641,
+    1_331,
+    121,
+    11,
+    1,
+];
+
 // The country codes of two digits: a bit for each value from 0 to 63, and from 64 on.
 const TWO_DIGITS_LOW: u64 = 0xf7fb_fb97_c810_0000;
 
@@ -43,18 +63,13 @@ fn wide(x: u8) -> u64
     x as u64
 }
 
-// A power that fits a word.
-fn power(base: u64, n: u64) -> u64
-    requires { ⌜ (0 < base) × (base ^ n < 2 ^ 64) ⌝ }
-    ensures { λ r. ⌜ r ≡ base ^ n ⌝ }
+// The weight of a place.
+fn weight_of(place: u64) -> u64
+    requires { ⌜ place ≤ 15 ⌝ }
+    ensures { λ r. ⌜ r ≡ 11 ^ (15 - place) ⌝ }
 {
-    let mut p: u64 = 1;
-    let mut left = n;
-    while 0 < left {
-        p *= base;
-        left -= 1;
-    }
-    p
+    let at = place as usize;
+    WEIGHTS[at]
 }
 
 // The key of a code sent as a count of digits and a value; refusal 4 where one is outside its range.
@@ -67,10 +82,7 @@ pub fn code_key(count: u64, value: u64) -> Keyed
     if MOST_DIGITS < count {
         return Keyed::Refused(refusal::OUT_OF_RANGE);
     }
-    if power(10, count) <= value {
-        return Keyed::Refused(refusal::OUT_OF_RANGE);
-    }
-    let mut weight = power(11, MOST_DIGITS - count);
+    let mut weight = weight_of(count);
     let mut v = value;
     let mut left = count;
     let mut key: u64 = 0;
@@ -79,6 +91,10 @@ pub fn code_key(count: u64, value: u64) -> Keyed
         weight *= 11;
         v /= 10;
         left -= 1;
+    }
+    // The value has more digits.
+    if 0 < v {
+        return Keyed::Refused(refusal::OUT_OF_RANGE);
     }
     Keyed::Key(key)
 }
@@ -131,6 +147,26 @@ pub fn sent_number_key(count: u64, value: u64) -> Keyed
     }
 }
 
+// The key of an allowed code sent as a count of digits and a value; refusal 4 where one is outside its range, 5 where the digits
+// are no allowed code.
+pub fn sent_code_key(count: u64, value: u64) -> Keyed
+    ensures { λ r. ⌜ r ≡ sentCodeKey count value ⌝ }
+{
+    match code_key(count, value) {
+        Keyed::Refused(e) => Keyed::Refused(e),
+        Keyed::Key(key) => {
+            // The first place holds the digit 0.
+            if key < 2 * FIRST_PLACE {
+                return Keyed::Refused(refusal::CODE_NOT_ALLOWED);
+            }
+            match country_of_key(key) {
+                Country::None => Keyed::Refused(refusal::CODE_NOT_ALLOWED),
+                Country::Code(_) => Keyed::Key(key),
+            }
+        }
+    }
+}
+
 // The key of the first n digits of the code that a word is the key of.
 pub fn prefix_key(key: u64, n: u64) -> u64
     ensures { λ r. ⌜ r ≡ prefixKey key n ⌝ }
@@ -138,7 +174,7 @@ pub fn prefix_key(key: u64, n: u64) -> u64
     if MOST_DIGITS <= n {
         return key;
     }
-    key - key % power(11, MOST_DIGITS - n)
+    key - key % weight_of(n)
 }
 
 // The count of digits and the value of the code that a word is the key of.

@@ -11,10 +11,10 @@ use lib.ListN.{length, take}
 use lib.Seq.{take-all, length-take-le}
 use Rattle.refusal.specs.Refusal.{outOfRange, codeNotAllowed, keysNotRising, outsideCountry}
 use Rattle.varint.specs.declared.Number.the-variants.{Value, Refused}
-use Rattle.dial_code.specs.Digits.{every, isDigit, digits, value, isNumber}
+use Rattle.dial_code.specs.Digits.{every, isDigit, digits, value, isWritten, isNumber}
 use Rattle.dial_code.specs.Key.{key, digitsOfKey, codeKey}
 use Rattle.dial_code.specs.CountryCode.{countryDigits, country, countryOfKey}
-use Rattle.dial_code.specs.Code.{isCode, isCodeKey}
+use Rattle.dial_code.specs.Code.{isCode, isCodeKey, sentCodeKey}
 use Rattle.dial_code.specs.declared.Country.{Country}
 use Rattle.dial_code.specs.declared.Country.the-variants.{Code, None}
 use Rattle.dial_code.specs.declared.Keyed.the-variants as keyed
@@ -22,6 +22,8 @@ use Rattle.dial_code.proofs.Tests.{both, and-left-true, same-eqb, below, equal,
 use Rattle.dial_code.proofs.DigitLaws.{length-digits, digits-are, value-digits, value-below, number-facts, no-digits, zero-first}
 use Rattle.dial_code.proofs.KeyLaws.{digits-back}
 use Rattle.dial_code.proofs.CountedKeys.{large, sent, country-of-key}
+use Rattle.dial_code.proofs.SentNumbers.{code-test}
+use Rattle.dial_code.proofs.SentCodes.{sent-test}
 use Rattle.notice.specs.LineRule.{isCountry, codeField}
 use Rattle.notice.specs.NoticeRule.{isCountryCode, countryField}
 use Rattle.notice.proofs.Links.{yes-case, no-case}
@@ -174,3 +176,61 @@ module _ (count v : ℕ) (h : 1 ≤ count) (l : count ≤ 15) where
 
   pub country-refused : (at e : ℕ) → codeKey count v ≡ keyed.Refused e → countryField count v at ≡ Refused e
   country-refused at e p = let q = has-none e p in no-case _ _ (le-ltb v (10 ^ count) (q .0)) ∙ ap Refused (q .1)
+
+  -- What the key of an allowed code shows, and a refusal.
+  allowed : (k : ℕ) → sentCodeKey count v ≡ keyed.Key k → (codeKey count v ≡ keyed.Key k) × (isCodeKey k ≡ true)
+  allowed k e = go (isWritten count v) refl (isCode (digits count v)) refl (sym (sent-test count v) ∙ e)
+    where
+      go : (t : Bool) → isWritten count v ≡ t → (u : Bool) → isCode (digits count v) ≡ u
+          → cond t (cond u (keyed.Key (key (digits count v))) (keyed.Refused codeNotAllowed)) (keyed.Refused outOfRange)
+          ≡ keyed.Key k
+          → (codeKey count v ≡ keyed.Key k) × (isCodeKey k ≡ true)
+      go true w true c r =
+          let p : key (digits count v) ≡ k = cc in
+          (code-test count v ∙ rw w r, ap isCodeKey (sym p) ∙ key-test (digits count v) (digits-are count v) few ∙ c)
+      go true w false c r = let z : _≡_ {A = ℕ} 0 1 = cc in absurd (omega arith)
+      go false w u c r = let z : _≡_ {A = ℕ} 0 1 = cc in absurd (omega arith)
+
+  data NoCode (e : ℕ) : Type 0 where
+    unwritten : codeKey count v ≡ keyed.Refused e → NoCode e
+    unallowed : (k : ℕ) → codeKey count v ≡ keyed.Key k → isCodeKey k ≡ false → codeNotAllowed ≡ e → NoCode e
+
+  no-code : (e : ℕ) → sentCodeKey count v ≡ keyed.Refused e → NoCode e
+  no-code e q = go (isWritten count v) refl (isCode (digits count v)) refl (sym (sent-test count v) ∙ q)
+    where
+      go : (t : Bool) → isWritten count v ≡ t → (u : Bool) → isCode (digits count v) ≡ u
+          → cond t (cond u (keyed.Key (key (digits count v))) (keyed.Refused codeNotAllowed)) (keyed.Refused outOfRange)
+          ≡ keyed.Refused e
+          → NoCode e
+      go true w true c r = let z : _≡_ {A = ℕ} 0 1 = cc in absurd (omega arith)
+      go true w false c r =
+          unallowed (key (digits count v)) (code-test count v ∙ rw w refl)
+          (key-test (digits count v) (digits-are count v) few ∙ c) cc
+      go false w u c r = unwritten (code-test count v ∙ rw w r)
+
+  -- The two rules by the tests of the code, for an allowed code; both are refused alike for another.
+  pub sent-code-tests : (named before at k : ℕ) → sentCodeKey count v ≡ keyed.Key k
+      → codeField named before count v at
+      ≡ cond (ltb before k)
+      (cond (eqb named 0 || isCountry (countryOfKey k) named) (Value k at) (Refused outsideCountry))
+      (Refused keysNotRising)
+  sent-code-tests named before at k e =
+      code-tests named before at k (allowed k e .0) ∙ yes-case _ _ (allowed k e .1)
+
+  pub sent-country-tests : (at k : ℕ) → sentCodeKey count v ≡ keyed.Key k
+      → countryField count v at ≡ cond (isCountry (countryOfKey k) v) (Value v at) (Refused codeNotAllowed)
+  sent-country-tests at k e = country-tests at k (allowed k e .0) ∙ yes-case _ _ (allowed k e .1)
+
+  pub sent-code-refused : (named before at e : ℕ) → sentCodeKey count v ≡ keyed.Refused e → codeField named before count v at ≡ Refused e
+  sent-code-refused named before at e q =
+      elim (no-code e q) [
+        | unwritten p ↦ code-refused named before at e p
+        | unallowed k p c r ↦ code-tests named before at k p ∙ no-case _ _ c ∙ ap Refused r
+      ]
+
+  pub sent-country-refused : (at e : ℕ) → sentCodeKey count v ≡ keyed.Refused e → countryField count v at ≡ Refused e
+  sent-country-refused at e q =
+      elim (no-code e q) [
+        | unwritten p ↦ country-refused at e p
+        | unallowed k p c r ↦ country-tests at k p ∙ no-case _ _ c ∙ ap Refused r
+      ]

@@ -127,12 +127,9 @@ fn code_field(named: u64, before: u64, count: u64, value: u64, next: usize) -> N
     requires { ⌜ (1 ≤ count) × (count ≤ 15) ⌝ }
     ensures { λ r. ⌜ r ≡ codeField named before count value next ⌝ }
 {
-    match dial_code::code_key(count, value) {
+    match dial_code::sent_code_key(count, value) {
         Keyed::Refused(e) => Number::Refused(e),
         Keyed::Key(key) => {
-            if !dial_code::is_code_key(key) {
-                return Number::Refused(refusal::CODE_NOT_ALLOWED);
-            }
             if key <= before {
                 return Number::Refused(refusal::KEYS_NOT_RISING);
             }
@@ -296,12 +293,9 @@ fn country_field(count: u64, value: u64, end: usize) -> Number
     requires { ⌜ (1 ≤ count) × (count ≤ 15) ⌝ }
     ensures { λ r. ⌜ r ≡ countryField count value end ⌝ }
 {
-    match dial_code::code_key(count, value) {
+    match dial_code::sent_code_key(count, value) {
         Keyed::Refused(e) => Number::Refused(e),
         Keyed::Key(key) => {
-            if !dial_code::is_code_key(key) {
-                return Number::Refused(refusal::CODE_NOT_ALLOWED);
-            }
             if lies_in(key, value) {
                 return Number::Value(value, end);
             }

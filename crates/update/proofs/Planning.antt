@@ -4,6 +4,7 @@ use mathlib.Core.Path.{_≡_, refl, ap, sym, _∙_}
 use mathlib.Core.Bool.{true, false}
 use mathlib.Core.List.{List, [], _∷_}
 use Prim.Native.Nat.{ℕ, _+_, _≤_, _<_, max}
+use native.Mathlib.Omega.{arith}
 use borrow.Author.Tests.{lt-ltb, le-ltb, eq-eqb, ne-eqb}
 use lib.Dec.{eqb, ltb}
 use lib.ListN.{length, getD, set, length-set}
@@ -23,7 +24,7 @@ use Rattle.book.specs.Status.{offerIn, matched}
 use Rattle.book.specs.declared.Answer.{Answer}
 use Rattle.history.specs.Effect.{Known, above, increases}
 use Rattle.history.specs.Applying.{inBook}
-use Rattle.update.specs.Plans.{earliestWanted, planOf, wantedBy, effectiveBy, changeBy, closesBy}
+use Rattle.update.specs.Plans.{earliestWanted, planOf, wantedBy, effectiveBy, changeBy, closesIn, closesBy}
 use Rattle.update.specs.Plans.{marked, marksOf, noMarks, marksFor, isMarked}
 use Rattle.update.specs.declared.Plan.{Plan}
 
@@ -98,6 +99,15 @@ module _ (p : Plan) (marks : List ℕ) (k : ℕ) where
   pub closes-all : p .kind ≡ 1 → true ≡ closesBy p marks k
   unfolding closesBy
   closes-all f = rw (eq-eqb (p .kind) 1 f)
+
+  -- an update closes nothing, whatever the country
+  closes-no-country : p .kind ≡ 3 → (x : Country) → false ≡ closesIn p marks x
+  closes-no-country f (Code n) = rw (ne-eqb (p .kind) 2 (λ g. omega arith), ne-eqb (p .kind) 4 (λ g. omega arith))
+  closes-no-country f None = refl
+
+  pub closes-not : p .kind ≡ 3 → false ≡ closesBy p marks k
+  unfolding closesBy
+  closes-not f = rw (ne-eqb (p .kind) 1 (λ g. omega arith)) (closes-no-country f (countryOfKey k))
 
   module _ (f : p .kind ≡ 1 → ⊥) where
     pub closes-nowhere : countryOfKey k ≡ None → false ≡ closesBy p marks k

@@ -166,6 +166,9 @@ fn closes(plan: Plan, marks: &[u8; 1000], key: u64) -> bool
     if plan.kind == notice::FULL {
         return true;
     }
+    if plan.kind == notice::UPDATE {
+        return false;
+    }
     match dial_code::country_of_key(key) {
         Country::None => false,
         Country::Code(country) => {
