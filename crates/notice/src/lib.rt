@@ -3,12 +3,12 @@ ghost use mathlib.Core.Path.{_≡_};
 ghost use Prim.Native.Nat.{_≤_, _-_, min};
 ghost use lib.ListN.{length, drop};
 ghost use Rattle.dial_code.specs.CountryCode.{countryOfKey};
-ghost use Rattle.rate.specs.Price.{priceOf};
 ghost use Rattle.notice.specs.Field.{readRanged};
-ghost use Rattle.notice.specs.LineRule.{isCountry, codeField, readCode, offered, readIncrements, readRate, readTerms, readListed, readLine, lineAt};
+ghost use Rattle.notice.specs.LineRule.{isCountry, codeField, readCode, readListed, readLine, lineAt};
 ghost use Rattle.notice.specs.NoticeRule.{countryField, readCountry, readNamed, readDated, readHeader, readLines, scanned, checkNotice};
 
 mod leading;
+mod pricing;
 mod write;
 
 use dial_code::Country;
@@ -16,15 +16,11 @@ use dial_code::Keyed;
 pub use leading::leading_fields;
 use rate::Day;
 use rate::Offer;
-use rate::Priced;
-use rate::Rate;
 use varint::Number;
 pub use write::header_size;
 pub use write::line_size;
 pub use write::write_header;
 pub use write::write_line;
-
-const MOST_SECONDS: u64 = 255;
 
 pub const MOST_LINES: u64 = 65_535;
 
@@ -157,77 +153,6 @@ fn read_code(named: u64, before: u64, s: &[u8], at: usize) -> Number
     }
 }
 
-// The offer of a rate and its increments: above the dearest open rate it is a block.
-fn offer_of(mantissa: u64, decimals: u64, first: u64, next: u64) -> Offer
-    requires { ⌜ (first ≤ 255) × (next ≤ 255) ⌝ }
-    ensures { λ r. ⌜ r ≡ offered (priceOf mantissa decimals) first next ⌝ }
-{
-    match Rate::new(mantissa, decimals) {
-        Priced::Open(rate) => Offer::Open {
-            rate,
-            first: first as u8,
-            next: next as u8,
-        },
-        Priced::Block => Offer::Blocked,
-        Priced::OutOfRange => Offer::Blocked,
-    }
-}
-
-// A rate's increments, after its mantissa and decimals.
-fn read_increments(mantissa: u64, decimals: u64, s: &[u8], at: usize) -> Terms
-    ensures { λ r. ⌜ r ≡ readIncrements mantissa decimals (now (s .entry)) at ⌝ }
-{
-    match read_ranged(s, at, 1, MOST_SECONDS) {
-        Number::Refused(e) => Terms::Refused(e),
-        Number::Value(first, after_first) => match read_ranged(s, after_first, 1, MOST_SECONDS) {
-            Number::Refused(e) => Terms::Refused(e),
-            Number::Value(next, end) => Terms::Offered(
-                offer_of(mantissa, decimals, first, next),
-                end,
-            ),
-        },
-    }
-}
-
-// A rate's decimals, mantissa and increments, as the offer that they make.
-fn read_rate(s: &[u8], at: usize) -> Terms
-    ensures { λ r. ⌜ r ≡ readRate (now (s .entry)) at ⌝ }
-{
-    match read_ranged(s, at, 0, rate::MOST_DECIMALS) {
-        Number::Refused(e) => Terms::Refused(e),
-        Number::Value(decimals, after_decimals) => match read_ranged(
-            s,
-            after_decimals,
-            0,
-            rate::MOST_MANTISSA,
-        ) {
-            Number::Refused(e) => Terms::Refused(e),
-            Number::Value(mantissa, end) => read_increments(mantissa, decimals, s, end),
-        },
-    }
-}
-
-// A line's status, and its rate where it has one.
-fn read_terms(s: &[u8], at: usize) -> Terms
-    ensures { λ r. ⌜ r ≡ readTerms (now (s .entry)) at ⌝ }
-{
-    match varint::read_number(s, at) {
-        Number::Refused(e) => Terms::Refused(e),
-        Number::Value(status, next) => {
-            if status == 0 {
-                return Terms::Offered(Offer::Closed, next);
-            }
-            if status == 1 {
-                return Terms::Offered(Offer::Blocked, next);
-            }
-            if status == 2 {
-                return read_rate(s, next);
-            }
-            Terms::Refused(refusal::UNKNOWN_KIND)
-        }
-    }
-}
-
 // A line's last field, against that of the line before where the notice is a replacement.
 fn read_listed(named: u64, before: u64, last: u64, s: &[u8], at: usize) -> Number
     ensures { λ r. ⌜ r ≡ readListed named before last (now (s .entry)) at ⌝ }
@@ -259,7 +184,7 @@ pub fn read_line(named: u64, before: u64, last: u64, s: &[u8]) -> LineRead
 {
     match read_code(named, before, s, 0) {
         Number::Refused(e) => LineRead::Refused(e),
-        Number::Value(key, after_code) => match read_terms(s, after_code) {
+        Number::Value(key, after_code) => match pricing::read_terms(s, after_code) {
             Terms::Refused(e) => LineRead::Refused(e),
             Terms::Offered(offer, after_terms) => match read_listed(
                 named,

@@ -110,7 +110,7 @@ fn apply_checked(old: &[u64], notice: &[u8], m: Summary, new: &mut [u64]) -> App
         return refused(refusal::RECEIVED_EARLIER);
     }
     let plan = crate::plan_of(m, old[1], old[3]);
-    let marks = crate::marks_for(notice, m);
+    let marks = crate::countries::marks_for(notice, m);
     let counted = merge(old, notice, m, plan, &marks, new, false);
     if book::entries_held(new.len()) < counted.count {
         return refused(refusal::BOOK_FULL);

@@ -8,8 +8,8 @@ use Rattle.notice.specs.LineRule.{readIncrements}
 use Rattle.notice.proofs.Told.{ranged-facts}
 use Rattle.rate.specs.declared.Offer.{Offer}
 use Rattle.notice.specs.declared.Terms.the-variants as terms
-use Rattle.notice.proofs.read_increments.Statement.{statement}
-use Rattle.notice.proofs.read_increments.Tie as tie
+use Rattle.notice.proofs.pricing.read_increments.Statement.{statement}
+use Rattle.notice.proofs.pricing.read_increments.Tie as tie
 
 first-read : (c : tie.After-first) →
     let a = c .before .before .before .before .args in

@@ -6,8 +6,8 @@ use Rattle.notice.proofs.Links.{on-value, on-refused, yes-case, no-case
 use Rattle.varint.specs.declared.Number.the-variants.{Value}
 use Rattle.varint.specs.Reading.{readNumber}
 use Rattle.notice.specs.LineRule.{readTerms}
-use Rattle.notice.proofs.read_terms.Statement.{statement}
-use Rattle.notice.proofs.read_terms.Tie as tie
+use Rattle.notice.proofs.pricing.read_terms.Statement.{statement}
+use Rattle.notice.proofs.pricing.read_terms.Tie as tie
 
 status-read : (c : tie.After-status) →
     let a = c .before .before .before .before .args in

@@ -4,8 +4,8 @@ use borrow.Author.Needs.{needs}
 use Rattle.dial_code.specs.CountryCode.{countryOfKey}
 use Rattle.dial_code.specs.declared.Country.the-variants.{Code}
 use Rattle.update.proofs.Planning.{closes-all, closes-not, closes-nowhere, closes-marked, closes-country, closes-none}
-use Rattle.update.proofs.closes.Statement.{statement}
-use Rattle.update.proofs.closes.Tie as tie
+use Rattle.update.proofs.countries.closes.Statement.{statement}
+use Rattle.update.proofs.countries.closes.Tie as tie
 
 -- the country of the key
 in-country : (c : tie.After-country)

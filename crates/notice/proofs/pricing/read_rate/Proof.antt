@@ -5,8 +5,8 @@ use Rattle.notice.proofs.Links.{on-value, on-refused}
 use Rattle.varint.specs.declared.Number.the-variants.{Value}
 use Rattle.notice.specs.Field.{readRanged}
 use Rattle.notice.specs.LineRule.{readRate}
-use Rattle.notice.proofs.read_rate.Statement.{statement}
-use Rattle.notice.proofs.read_rate.Tie as tie
+use Rattle.notice.proofs.pricing.read_rate.Statement.{statement}
+use Rattle.notice.proofs.pricing.read_rate.Tie as tie
 
 decimals-read : (c : tie.After-decimals) →
     let a = c .before .before .before .before .args in

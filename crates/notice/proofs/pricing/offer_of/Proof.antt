@@ -3,8 +3,8 @@ use mathlib.Core.Path.{ap, sym, _∙_}
 use borrow.Author.Needs.{needs}
 use Rattle.notice.specs.LineRule.{offered}
 use Rattle.rate.specs.declared.Priced.{Priced}
-use Rattle.notice.proofs.offer_of.Statement.{statement}
-use Rattle.notice.proofs.offer_of.Tie as tie
+use Rattle.notice.proofs.pricing.offer_of.Statement.{statement}
+use Rattle.notice.proofs.pricing.offer_of.Tie as tie
 
 new-requires : tie.Need-new-requires
 new-requires c κs = search needs
