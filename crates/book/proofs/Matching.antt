@@ -1,5 +1,5 @@
 -- The longest match: it depends on the statuses of keys alone, further tries than there are digits change nothing, and it is
--- found by truncating a key place by place. Assumes nothing.
+-- found by truncating a key place by place, among fewer and fewer entries. Assumes nothing.
 use mathlib.Core.Path.{_≡_, refl, ap, sym, _∙_}
 use mathlib.Core.Bool.{Bool, true, false, false≢true}
 use mathlib.Core.List.{List, [], _∷_}
@@ -151,8 +151,8 @@ prefix-rises w n =
     let p = 11 ^ (15 - suc n) in
     elim (order n 15) [
       | below l ↦
-          let f : p * 11 ≡ 11 ^ (15 - n) = next-weight (suc n) p (omega arith) (omega arith) refl ∙ ap (λ (x : ℕ). 11 ^ (15 - x)) (sub-one (suc n)) in
-          let a = place-key w n (w / p / 11) (p * 11) f (next-quotient w (w / p) p refl) in
+          let f = next-weight (suc n) p (omega arith) (omega arith) refl in
+          let a = place-key w n (w / p / 11) (p * 11) (rw sub-one at f) (next-quotient w (w / p) p refl) in
           let b = place-key w (suc n) (w / p) p refl refl in
           let m : w / p / 11 * 11 ≤ w / p = omega arith in
           rw (sym a, sym b) (omega (arith, mul-le-mul-right p m, mul-assoc (w / p / 11) 11 p, mul-comm p 11))
@@ -205,14 +205,14 @@ module _ (ws : List ℕ) (w d : ℕ) where
   searched zero count bound k h p l f g v q = absurd (omega arith)
   searched (suc n) count bound k h p l f g v q = rw (q, v, g, f, p, sub-one) (search n count bound (rw p at l))
 
--- What a search in a sound book keeps: behind the entries left stand only such as are after every truncation to n places or
--- fewer, and these are closed where they lie above the bound.
+-- What the searches in a sound book have left: the entry behind the entries left is after every truncation to n places or fewer,
+-- and these are closed where they lie above the bound.
 pub record Narrowed (ws : List ℕ) (w day n count bound : ℕ) : Type 0 where
   pub among : count ≤ countOf ws
   pub behind : (x : ℕ) → x ≤ prefixKey w n → count < countOf ws → upTo ws x day count ≡ false
   pub closed : (x : ℕ) → bound < x → x ≤ prefixKey w n → isStanding (statusOn ws day x) ≡ false
 
--- It starts from all entries and the word itself, and keeps what it has where nothing is searched for.
+-- All entries and the word itself, before the first search; and the same with a place fewer.
 all-left : (ws : List ℕ) (w day : ℕ) → Narrowed ws w day 15 (countOf ws) w
 all-left ws w day = record {
   among = omega arith;
@@ -267,7 +267,7 @@ module _ (ws : List ℕ) (w day : ℕ) (s : sound ws ≡ true) where
       ];
     }
 
-    -- so that the match depends on what is tried after
+    -- so that its own offer is the answer, or what is tried after it
     goes-on :
         {a : Answer}
         → k ≤ bound
@@ -292,15 +292,17 @@ module _ (ws : List ℕ) (w day : ℕ) (s : sound ws ≡ true) where
       let d = word-digits w in
       let p = key-take (suc n) (digitsOfKey w) (d .0) (d .1) ∙ ap (λ (y : ℕ). prefixKey y (suc n)) q in
       let a = longest f (digitsOfKey w) n in
-      let goal = one-try f (digitsOfKey w) (suc n) x (omega arith) (sym p) in
+      let last = sym (rw sub-one at (one-try f (digitsOfKey w) (suc n) x (omega arith) (sym p))) in
+      let here : x ≤ bound → tried ws w day (suc n) count bound ≡ longest f (digitsOfKey w) (suc n) =
+      λ l. goes-on n count bound r l (λ z. tried-longest q n _ _ (narrows n count bound r z)) ∙ last in
       elim (order bound x) [
         | below b ↦
             passed-by ws w day (suc n) count bound x (omega arith) refl b
             ∙ rw sub-one (tried-longest q n count bound (fewer-places ws w day n count bound r))
             ∙ sym (passes (f x) x a (r .closed x b (omega arith)))
-            ∙ sym (rw sub-one at goal)
-        | equal b ↦ goes-on n count bound r (omega arith) (λ z. tried-longest q n _ _ (narrows n count bound r z)) ∙ sym (rw sub-one at goal)
-        | above b ↦ goes-on n count bound r (omega arith) (λ z. tried-longest q n _ _ (narrows n count bound r z)) ∙ sym (rw sub-one at goal)
+            ∙ last
+        | equal b ↦ here (omega arith)
+        | above b ↦ here (omega arith)
       ]
 
 -- In a sound book the answer to a key is the longest match of its digits.
