@@ -12,14 +12,14 @@ use lib.Dec.{eqb, leb, ltb}
 use lib.ListN.{length}
 use Rattle.dial_code.proofs.Tests.{below, equal, above, order, both, and-right-false}
 use Rattle.rate.specs.OfferWord.{offerOf}
-use Rattle.rate.specs.declared.Stored.{Stored}
-use Rattle.book.specs.Layout.{headerWords, entryWords, countOf, entryAt, entriesFrom, entriesOf}
-use Rattle.book.specs.Search.{notAfter, halved, upTo, foundUpTo, lastOffer, statusFound, offerFound}
+use Rattle.book.specs.Layout.{headerWords, entryWords, countOf, entry, entryAt, entriesFrom, entriesOf}
+use Rattle.book.specs.Search.{notAfter, halved, upTo, foundUpTo, headedCount, lastEntry, ownWord, statusFound, offerFound}
 use Rattle.book.specs.Soundness.{soundHeader, sound}
 use Rattle.book.specs.Status.{statusFrom, statusIn, heldOffer, offerIn}
 use Rattle.book.specs.declared.Entry.{Entry}
 use Rattle.book.proofs.Rules.{sound-test}
 use Rattle.book.proofs.Rows.{entryIn, of-book, row-at, length-rows}
+use Rattle.book.proofs.Headers.{headed}
 use Rattle.book.proofs.SoundLists.{Sound, entries-sound}
 use Rattle.book.proofs.Statuses.{Before, smaller, earlier, starts-closed, last-entry, no-last-entry}
 
@@ -137,44 +137,78 @@ pub tested :
     → upTo ws k d i ≡ u
 tested ws k d i q r s = ap (λ (x : Entry). notAfter x k d) (sym q) ∙ sym r ∙ s
 
--- The offer word of the last of some entries, by the tests of the code.
-module _ (ws : List ℕ) (n k : ℕ) where
-  last-test :
-      let e = entryAt ws (headerWords + (n - 1) * entryWords) in
-      lastOffer ws n k ≡ cond (eqb n 0) 0 (cond (eqb (e .key) k) (e .offer) 0)
-  unfolding lastOffer
-  last-test = refl
+-- The entries to search, by the tests of the code; there are words for all of them.
+module _ (ws : List ℕ) where
+  pub headed-count : headerWords ≤ length ws → soundHeader ws ≡ true → headedCount ws ≡ countOf ws
+  unfolding headedCount
+  headed-count l h = rw (le-leb headerWords (length ws) l, h)
 
-  pub no-entry : n ≡ 0 → lastOffer ws n k ≡ 0
-  no-entry h = last-test ∙ rw (eq-eqb n 0 h)
+  pub no-words : length ws < headerWords → headedCount ws ≡ 0
+  unfolding headedCount
+  no-words h = rw (lt-leb headerWords (length ws) h)
 
-  module _ {e : Entry} (h : n ≡ 0 → ⊥) (q : e ≡ entryAt ws (headerWords + (n - 1) * entryWords)) where
-    pub own-offer : e .key ≡ k → lastOffer ws n k ≡ e .offer
-    own-offer p = last-test ∙ rw (ne-eqb n 0 h, sym q, eq-eqb (e .key) k p)
+  pub no-header : soundHeader ws ≡ false → headedCount ws ≡ 0
+  unfolding headedCount
+  no-header h = rw (and-right-false (leb headerWords (length ws)) h)
 
-    pub other-offer : (e .key ≡ k → ⊥) → lastOffer ws n k ≡ 0
-    other-offer p = last-test ∙ rw (ne-eqb n 0 h, sym q, ne-eqb (e .key) k p)
+  pub count-room : headedCount ws * entryWords ≤ length ws - headerWords
+  unfolding headedCount
+  count-room = go (leb headerWords (length ws)) refl (soundHeader ws) refl
+    where
+      go : (t : Bool) → leb headerWords (length ws) ≡ t
+          → (u : Bool)
+          → soundHeader ws ≡ u
+          → cond (t && u) (countOf ws) 0 * entryWords ≤ length ws - headerWords
+      go true p true q = omega (arith, headed ws (leb-true headerWords (length ws) p) q .room)
+      go true p false q = omega arith
+      go false p u q = omega arith
 
--- The offer word that is found, by the tests of the code.
-module _ (ws : List ℕ) (k d : ℕ) where
-  found-test :
-      statusFound ws k d ≡ cond (leb headerWords (length ws) && soundHeader ws) (lastOffer ws (foundUpTo ws (countOf ws) k d) k) 0
-  unfolding statusFound
-  found-test = refl
+-- What is found among them has words too.
+pub found-room :
+    (ws : List ℕ) (count k d : ℕ) {n : ℕ}
+    → count * entryWords ≤ length ws - headerWords
+    → n ≡ foundUpTo ws count k d
+    → n * entryWords ≤ length ws - headerWords
+found-room ws count k d h e = omega (arith, found-most ws count k d e)
 
-  pub no-words : length ws < headerWords → statusFound ws k d ≡ 0
-  no-words h = found-test ∙ rw (lt-leb headerWords (length ws) h)
+-- The last of some entries, by the test of the code.
+module _ (ws : List ℕ) (n : ℕ) where
+  pub no-last : n ≡ 0 → lastEntry ws n ≡ entry 0 0 0
+  unfolding lastEntry
+  no-last h = rw (eq-eqb n 0 h)
 
-  pub no-header : soundHeader ws ≡ false → statusFound ws k d ≡ 0
-  no-header h = found-test ∙ rw (and-right-false (leb headerWords (length ws)) h)
+  pub some-last : (n ≡ 0 → ⊥) → lastEntry ws n ≡ entryAt ws (headerWords + (n - 1) * entryWords)
+  unfolding lastEntry
+  some-last h = rw (ne-eqb n 0 h)
 
-  pub searched :
-      {n : ℕ}
-      → headerWords ≤ length ws
-      → soundHeader ws ≡ true
-      → n ≡ foundUpTo ws (countOf ws) k d
-      → statusFound ws k d ≡ lastOffer ws n k
-  searched l h q = found-test ∙ rw (le-leb headerWords (length ws) l, h, q)
+-- The offer word of an entry of a code, and of another; one of zeros has no other word.
+module _ (e : Entry) (k : ℕ) where
+  pub own-offer : e .key ≡ k → ownWord e k ≡ e .offer
+  unfolding ownWord
+  own-offer h = ap (λ (t : Bool). cond t (e .offer) 0) (eq-eqb (e .key) k h)
+
+  pub other-offer : (e .key ≡ k → ⊥) → ownWord e k ≡ 0
+  unfolding ownWord
+  other-offer h = ap (λ (t : Bool). cond t (e .offer) 0) (ne-eqb (e .key) k h)
+
+  pub closed-offer : e .offer ≡ 0 → ownWord e k ≡ 0
+  unfolding ownWord
+  closed-offer h = go (eqb (e .key) k)
+    where
+      go : (t : Bool) → cond t (e .offer) 0 ≡ 0
+      go true = h
+      go false = refl
+
+-- The status that is found, by the steps of the code.
+pub as-found :
+    (ws : List ℕ) (k d : ℕ) {count n : ℕ} {e : Entry} {w : ℕ}
+    → count ≡ headedCount ws
+    → n ≡ foundUpTo ws count k d
+    → e ≡ lastEntry ws n
+    → w ≡ ownWord e k
+    → statusFound ws k d ≡ w
+unfolding statusFound
+as-found ws k d c f l o = rw (o, l, f, c)
 
 -- What the test of an entry's place shows.
 module _ (e : Entry) (x d : ℕ) where
@@ -193,6 +227,58 @@ module _ (e : Entry) (x d : ℕ) where
   pub less-key : notAfter e x d ≡ true → (e .key ≡ x → ⊥) → e .key < x
   unfolding notAfter
   less-key h n = ltb-true (e .key) x (rw (ne-eqb (e .key) x n) at h)
+
+  is-after : Before (e .key) (e .day) x d → notAfter e x d ≡ false
+  unfolding notAfter
+  is-after (smaller l) = rw (ne-eqb (e .key) x (λ q. omega arith), le-ltb (e .key) x (omega arith))
+  is-after (earlier q l) = rw (eq-eqb (e .key) x (sym q), lt-leb (e .day) d l)
+
+  is-smaller : e .key < x → notAfter e x d ≡ true
+  unfolding notAfter
+  is-smaller l = rw (ne-eqb (e .key) x (λ q. omega arith), lt-ltb (e .key) x l)
+
+-- An entry after a code and a day is after every smaller code and the day.
+pub after-smaller : (e : Entry) (x k d : ℕ) → x ≤ k → notAfter e k d ≡ false → notAfter e x d ≡ false
+after-smaller e x k d l h = is-after e x d (go (stands-after e k d h))
+  where
+    go : Before (e .key) (e .day) k d → Before (e .key) (e .day) x d
+    go (smaller m) = smaller (omega arith)
+    go (earlier q m) =
+        elim (order x k) [
+          | below b ↦ smaller (omega arith)
+          | equal b ↦ earlier (b ∙ q) m
+          | above b ↦ absurd (omega arith)
+        ]
+
+-- What is found for a code is found for every smaller one that is larger than the key of the last entry found.
+pub found-between :
+    (ws : List ℕ) (x k d n r : ℕ)
+    → x ≤ k
+    → lastEntry ws r .key < x
+    → Turns (upTo ws k d) 0 n r
+    → Turns (upTo ws x d) 0 n r
+found-between ws x k d n r l h t = record {
+  least = t .least;
+  most = t .most;
+  holds-before = λ q.
+      let p = ap (λ (e : Entry). e .key) (some-last ws r (λ z. omega arith)) in
+      is-smaller _ x d (omega (arith, h, p));
+  fails-there = λ q. after-smaller _ x k d l (t .fails-there q);
+}
+
+-- What is found among the first entries is found among all, where the entry behind them is after the code and the day.
+pub found-widely :
+    (test : ℕ → Bool) (n count r : ℕ)
+    → count ≤ n
+    → (count < n → test count ≡ false)
+    → Turns test 0 count r
+    → Turns test 0 n r
+found-widely test n count r l h t =
+    elim (order count n) [
+      | below b ↦ from-before test 0 n count r l (h b) t
+      | equal b ↦ rw b at t
+      | above b ↦ absurd (omega arith)
+    ]
 
 -- Between an entry that is not after a code and a day and one that is lies their status: that of the entry before, where it is
 -- the code's, and closed otherwise.
@@ -256,36 +342,40 @@ module _
           (λ j z. let f : j ≡ r - 1 = omega arith in rw (f, row-before) (less-key e x d not-later n))
           behind)
 
--- In a sound book the status that is found is the code's.
+-- All entries of a sound book are searched, and the status that is found is the code's.
+pub sound-count : (ws : List ℕ) → sound ws ≡ true → headedCount ws ≡ countOf ws
+sound-count ws s =
+    let a = both _ _ (sym (sound-test ws) ∙ s) in
+    headed-count ws (leb-true headerWords (length ws) (a .0)) (both _ _ (a .1) .0)
+
 module _ (ws : List ℕ) (k d : ℕ) (s : sound ws ≡ true) where
-  pub status-found : statusFound ws k d ≡ statusIn (entriesOf ws) k d
-  status-found =
-      let a = both _ _ (sym (sound-test ws) ∙ s) in
-      let n = foundUpTo ws (countOf ws) k d in
-      searched ws k d (leb-true headerWords (length ws) (a .0)) (both _ _ (a .1) .0) refl
-      ∙ last-test ws n k
-      ∙ by-tests n (found-turns ws (countOf ws) k d) (eqb n 0) refl _ refl
+  pub last-status : (n : ℕ) → Turns (upTo ws k d) 0 (countOf ws) n → ownWord (lastEntry ws n) k ≡ statusIn (entriesOf ws) k d
+  last-status n f =
+      let e = entryAt ws (headerWords + (n - 1) * entryWords) in
+      by-tests (eqb n 0) refl (eqb (e .key) k) refl
     where
-      by-tests : (n : ℕ) → Turns (upTo ws k d) 0 (countOf ws) n
-          → let e = entryAt ws (headerWords + (n - 1) * entryWords) in
+      by-tests : let e = entryAt ws (headerWords + (n - 1) * entryWords) in
           (t : Bool)
           → eqb n 0 ≡ t
           → (u : Bool)
           → eqb (e .key) k ≡ u
-          → cond t 0 (cond u (e .offer) 0) ≡ statusIn (entriesOf ws) k d
-      by-tests n f true p u q = nothing-before ws s k d n f (eqb-true n 0 p)
-      by-tests n f false p true q = own-entry ws s k d n f (omega (arith, eqb-false n 0 p)) refl (eqb-true _ k q)
-      by-tests n f false p false q = other-entry ws s k d n f (omega (arith, eqb-false n 0 p)) refl (eqb-false _ k q)
+          → ownWord (lastEntry ws n) k ≡ statusIn (entriesOf ws) k d
+      by-tests true p u q =
+          let z = eqb-true n 0 p in
+          ap (λ (e : Entry). ownWord e k) (no-last ws n z) ∙ closed-offer _ k refl ∙ nothing-before ws s k d n f z
+      by-tests false p true q =
+          let z = eqb-false n 0 p in
+          let l = eqb-true _ k q in
+          ap (λ (e : Entry). ownWord e k) (some-last ws n z) ∙ own-offer _ k l ∙ own-entry ws s k d n f (omega (arith, z)) refl l
+      by-tests false p false q =
+          let z = eqb-false n 0 p in
+          let l = eqb-false _ k q in
+          ap (λ (e : Entry). ownWord e k) (some-last ws n z) ∙ other-offer _ k l ∙ other-entry ws s k d n f (omega (arith, z)) refl l
+
+  pub status-found : statusFound ws k d ≡ statusIn (entriesOf ws) k d
+  unfolding statusFound
+  status-found = rw (sound-count ws s) (last-status _ (found-turns ws (countOf ws) k d))
 
   pub offer-found : offerFound ws k d ≡ offerIn (entriesOf ws) k d
   unfolding offerFound offerIn
   offer-found = ap (λ (w : ℕ). heldOffer (offerOf w)) status-found
-
--- A status that is found and what it stands for are the offer that is found.
-pub as-found :
-    (ws : List ℕ) (k d : ℕ) {w : ℕ} {o : Stored}
-    → w ≡ statusFound ws k d
-    → o ≡ offerOf w
-    → offerFound ws k d ≡ heldOffer o
-unfolding offerFound
-as-found ws k d p q = ap (λ (w : ℕ). heldOffer (offerOf w)) (sym p) ∙ ap heldOffer (sym q)

@@ -1,30 +1,34 @@
 -- The longest match: it depends on the statuses of keys alone, further tries than there are digits change nothing, and it is
--- found by truncating a key place by place. Assumes nothing.
+-- found by truncating a key place by place, among fewer and fewer entries. Assumes nothing.
 use mathlib.Core.Path.{_≡_, refl, ap, sym, _∙_}
 use mathlib.Core.Bool.{Bool, true, false, false≢true}
 use mathlib.Core.List.{List, [], _∷_}
-use Prim.Native.Nat.{ℕ, zero, suc, _-_, _%_, _^_, _≤_, _<_}
-use native.Mathlib.Nat.{one-le-pow}
+use Prim.Native.Nat.{ℕ, zero, suc, _-_, _*_, _/_, _^_, _≤_, _<_, min}
+use native.Mathlib.Nat.{mod-add-div', div-div-eq-div-mul, mul-le-mul-right, mul-assoc, mul-comm}
 use native.Mathlib.Numerals.{sub-one}
 use native.Mathlib.Omega.{arith}
+use borrow.Author.Tests.{le-leb, lt-leb}
 use lib.Dec.{lit<}
 use lib.ListN.{length, take}
 use lib.Seq.{take-all}
 use Rattle.dial_code.specs.Digits.{every, isDigit}
 use Rattle.dial_code.specs.Key.{key, prefixKey, keysEnd, digitsOfKey}
 use Rattle.dial_code.proofs.Tests.{below, equal, above, order}
-use Rattle.dial_code.proofs.KeyLaws.{key-take}
+use Rattle.dial_code.proofs.KeyLaws.{key-take, whole}
+use Rattle.dial_code.proofs.CountedKeys.{next-weight}
 use Rattle.dial_code.proofs.CountryLaws.{beyond, all-places}
 use Rattle.dial_code.proofs.CodeLaws.{length-places, digits-places, no-first-digit}
 use Rattle.rate.specs.OfferWord.{offerOf}
 use Rattle.rate.specs.declared.Offer.{Offer}
 use Rattle.rate.specs.declared.Offer.the-variants.{Closed, Blocked, Open}
-use Rattle.book.specs.Layout.{entriesOf}
+use Rattle.book.specs.Layout.{countOf, entriesOf}
 use Rattle.book.specs.Soundness.{sound}
-use Rattle.book.specs.Search.{offerFound, truncated, bestFound}
+use Rattle.book.specs.Search.{upTo, headedCount, foundUpTo, lastEntry, ownWord, tried, bestFound}
 use Rattle.book.specs.Status.{heldOffer, offerIn, answer, isStanding, standing, longest, matched}
 use Rattle.book.specs.declared.Answer.{Answer}
-use Rattle.book.proofs.Halving.{offer-found}
+use Rattle.book.specs.declared.Entry.{Entry}
+use Rattle.book.proofs.Halving.{Turns, found-turns, found-widely, found-between, after-smaller, other-offer}
+use Rattle.book.proofs.Halving.{last-status, sound-count}
 use Rattle.book.proofs.SoundLists.{entries-sound}
 use Rattle.book.proofs.Statuses.{starts-closed, no-code}
 
@@ -39,13 +43,10 @@ passes Closed k a e = refl
 passes Blocked k a e = absurd (false≢true (sym e))
 passes (Open r first next) k a e = absurd (false≢true (sym e))
 
--- The same of an offer found by a key and tested.
-module _ (f : ℕ → Offer) (k : ℕ) {o : Offer} {t : Bool} (p : o ≡ f k) (q : t ≡ isStanding o) where
-  pub found-standing : (a : Answer) → t ≡ true → standing (f k) k a ≡ answer k o
-  found-standing a e = stands (f k) k a (ap isStanding (sym p) ∙ sym q ∙ e) ∙ ap (answer k) (sym p)
-
-  pub found-closed : t ≡ false → isStanding (f k) ≡ false
-  found-closed e = ap isStanding (sym p) ∙ sym q ∙ e
+pub same-rest : (o : Offer) (k : ℕ) (a b : Answer) → (isStanding o ≡ false → a ≡ b) → standing o k a ≡ standing o k b
+same-rest Closed k a b e = e refl
+same-rest Blocked k a b e = refl
+same-rest (Open r first next) k a b e = refl
 
 -- The longest match depends on the statuses of the number's beginnings alone.
 pub longest-same :
@@ -132,59 +133,177 @@ none-at-zero ws day s =
     let closed = starts-closed es 0 day ∙ no-code 0 0 0 0 es 0 day (entries-sound ws s) (no-first-digit 0 (lit< tt)) in
     ap (λ (w : ℕ). isStanding (heldOffer (offerOf w))) closed
 
--- A word truncated place by place.
-module _ (f : ℕ → Offer) (w : ℕ) where
-  pub no-place : (n : ℕ) → n ≡ 0 → truncated f w n ≡ answer 0 Closed
-  unfolding truncated
-  no-place zero e = refl
-  no-place (suc n) e = absurd (omega arith)
+-- A word truncated to n places: its quotient by the n-th place's weight, times that weight; and the quotient by the next weight.
+pub place-key : (w n quotient place : ℕ) → place ≡ 11 ^ (15 - n) → quotient ≡ w / place → quotient * place ≡ prefixKey w n
+unfolding prefixKey
+place-key w n quotient place e q = rw (q, sym e) (omega (arith, mod-add-div' w place))
 
-  pub one-place :
-      (n place : ℕ)
+pub next-quotient : (w quotient place : ℕ) → quotient ≡ w / place → quotient / 11 ≡ w / (place * 11)
+next-quotient w quotient place q = rw q (div-div-eq-div-mul w place 11)
+
+-- Truncations fall with the places.
+pub prefix-most : (w n : ℕ) → prefixKey w n ≤ w
+unfolding prefixKey
+prefix-most w n = omega arith
+
+prefix-rises : (w n : ℕ) → prefixKey w n ≤ prefixKey w (suc n)
+prefix-rises w n =
+    let p = 11 ^ (15 - suc n) in
+    elim (order n 15) [
+      | below l ↦
+          let f = next-weight (suc n) p (omega arith) (omega arith) refl in
+          let a = place-key w n (w / p / 11) (p * 11) (rw sub-one at f) (next-quotient w (w / p) p refl) in
+          let b = place-key w (suc n) (w / p) p refl refl in
+          let m : w / p / 11 * 11 ≤ w / p = omega arith in
+          rw (sym a, sym b) (omega (arith, mul-le-mul-right p m, mul-assoc (w / p / 11) 11 p, mul-comm p 11))
+      | equal l ↦ rw (whole w (suc n) (omega arith)) (prefix-most w n)
+      | above l ↦ rw (whole w (suc n) (omega arith)) (prefix-most w n)
+    ]
+
+-- The start, and one truncation of a word: none is left, it lies above the bound, or it is searched for.
+module _ (ws : List ℕ) (w d : ℕ) where
+  pub starts : {n : ℕ} → n ≡ headedCount ws → bestFound ws w d ≡ tried ws w d 15 n w
+  unfolding bestFound
+  starts e = rw e
+
+  pub no-place : (n count bound : ℕ) → n ≡ 0 → tried ws w d n count bound ≡ answer 0 Closed
+  unfolding tried
+  no-place zero count bound e = refl
+  no-place (suc n) count bound e = absurd (omega arith)
+
+  pub passed-by :
+      (n count bound k : ℕ)
       → 0 < n
-      → place ≡ 11 ^ (15 - n)
-      → let k = w - w % place in
-      truncated f w n ≡ standing (f k) k (truncated f w (n - 1))
-  unfolding truncated
-  one-place zero place h e = absurd (omega arith)
-  one-place (suc n) place h e = rw (e, sub-one)
+      → k ≡ prefixKey w n
+      → bound < k
+      → tried ws w d n count bound ≡ tried ws w d (n - 1) count bound
+  unfolding tried
+  passed-by zero count bound k h e l = absurd (omega arith)
+  passed-by (suc n) count bound k h e l = rw (lt-leb (prefixKey w (suc n)) bound (rw e at l), sub-one, tried)
 
-  -- The try of a key that is closed.
-  pub closed-try :
-      (n place k : ℕ)
+  search :
+      (n count bound : ℕ)
+      → let k = prefixKey w (suc n) in
+      let found = foundUpTo ws count k d in
+      let e = lastEntry ws found in
+      k ≤ bound
+      → tried ws w d (suc n) count bound
+      ≡ standing (heldOffer (offerOf (ownWord e k))) k (tried ws w d n found (min (e .key) (k - 1)))
+  unfolding tried
+  search n count bound l = rw (le-leb (prefixKey w (suc n)) bound l, tried)
+
+  pub searched :
+      (n count bound k : ℕ) {found : ℕ} {e : Entry} {word : ℕ} {o : Offer}
       → 0 < n
-      → place ≡ 11 ^ (15 - n)
-      → k ≡ w - w % place
-      → isStanding (f k) ≡ false
-      → truncated f w n ≡ truncated f w (n - 1)
-  closed-try n place k h e q z =
-      let k₀ = w - w % place in
-      one-place n place h e ∙ passes (f k₀) k₀ _ (rw q at z)
+      → k ≡ prefixKey w n
+      → k ≤ bound
+      → found ≡ foundUpTo ws count k d
+      → e ≡ lastEntry ws found
+      → word ≡ ownWord e k
+      → o ≡ heldOffer (offerOf word)
+      → tried ws w d n count bound ≡ standing o k (tried ws w d (n - 1) found (min (e .key) (k - 1)))
+  searched zero count bound k h p l f g v q = absurd (omega arith)
+  searched (suc n) count bound k h p l f g v q = rw (q, v, g, f, p, sub-one) (search n count bound (rw p at l))
 
-  -- Truncations of a key are the keys of its digits' beginnings.
-  pub truncated-longest :
-      (g : ℕ → Offer)
-      → ((k : ℕ) → f k ≡ g k)
-      → key (digitsOfKey w) ≡ w
-      → (n : ℕ)
-      → truncated f w n ≡ longest g (digitsOfKey w) n
-  unfolding truncated longest
-  truncated-longest g same q zero = refl
-  truncated-longest g same q (suc n) =
+-- What the searches in a sound book have left: the entry behind the entries left is after every truncation to n places or fewer,
+-- and these are closed where they lie above the bound.
+pub record Narrowed (ws : List ℕ) (w day n count bound : ℕ) : Type 0 where
+  pub among : count ≤ countOf ws
+  pub behind : (x : ℕ) → x ≤ prefixKey w n → count < countOf ws → upTo ws x day count ≡ false
+  pub closed : (x : ℕ) → bound < x → x ≤ prefixKey w n → isStanding (statusOn ws day x) ≡ false
+
+-- All entries and the word itself, before the first search; and the same with a place fewer.
+all-left : (ws : List ℕ) (w day : ℕ) → Narrowed ws w day 15 (countOf ws) w
+all-left ws w day = record {
+  among = omega arith;
+  behind = λ x l h. absurd (omega arith);
+  closed = λ x l h. absurd (omega (arith, prefix-most w 15));
+}
+
+fewer-places : (ws : List ℕ) (w day n count bound : ℕ) → Narrowed ws w day (suc n) count bound → Narrowed ws w day n count bound
+fewer-places ws w day n count bound r = record {
+  among = r .among;
+  behind = λ x l. r .behind x (omega (arith, prefix-rises w n));
+  closed = λ x h l. r .closed x h (omega (arith, prefix-rises w n));
+}
+
+module _ (ws : List ℕ) (w day : ℕ) (s : sound ws ≡ true) where
+  module _ (n count bound : ℕ) (r : Narrowed ws w day (suc n) count bound) where
+    k : ℕ
+    k = prefixKey w (suc n)
+
+    found : ℕ
+    found = foundUpTo ws count k day
+
+    found-all : Turns (upTo ws k day) 0 (countOf ws) found
+    unfolding k found
+    found-all = found-widely _ (countOf ws) count _ (r .among) (r .behind k (omega arith)) (found-turns ws count k day)
+
+    -- the offer of the last entry found is the truncation's own
+    found-own : heldOffer (offerOf (ownWord (lastEntry ws found) k)) ≡ statusOn ws day k
+    unfolding offerIn
+    found-own = ap (λ (x : ℕ). heldOffer (offerOf x)) (last-status ws k day s found found-all)
+
+    -- and nothing lies between them
+    none-between : (x : ℕ) → lastEntry ws found .key < x → x ≤ k → isStanding (statusOn ws day x) ≡ false
+    unfolding offerIn offerOf
+    none-between x h l =
+        let e = lastEntry ws found in
+        let t = found-between ws x k day (countOf ws) found l h found-all in
+        ap (λ (o : ℕ). isStanding (heldOffer (offerOf o)))
+        (sym (last-status ws x day s found t) ∙ other-offer e x (λ q. omega arith))
+
+    narrows :
+        isStanding (statusOn ws day k) ≡ false
+        → Narrowed ws w day n found (min (lastEntry ws found .key) (k - 1))
+    unfolding k
+    narrows z = record {
+      among = found-all .most;
+      behind = λ x l h. after-smaller _ x k day (omega (arith, prefix-rises w n)) (found-all .fails-there h);
+      closed = λ x h l. elim (order x k) [
+        | below b ↦ none-between x (omega arith) (omega arith)
+        | equal b ↦ ap (λ (y : ℕ). isStanding (statusOn ws day y)) b ∙ z
+        | above b ↦ absurd (omega (arith, prefix-rises w n))
+      ];
+    }
+
+    -- so that its own offer is the answer, or what is tried after it
+    goes-on :
+        {a : Answer}
+        → k ≤ bound
+        → (isStanding (statusOn ws day k) ≡ false → tried ws w day n found (min (lastEntry ws found .key) (k - 1)) ≡ a)
+        → tried ws w day (suc n) count bound ≡ standing (statusOn ws day k) k a
+    unfolding k found
+    goes-on l h =
+        searched ws w day (suc n) count bound k (omega arith) refl l refl refl refl (sym found-own)
+        ∙ rw sub-one (same-rest (statusOn ws day k) k _ _ h)
+
+  -- In a sound book it finds the longest match of a key's digits.
+  tried-longest :
+      key (digitsOfKey w) ≡ w
+      → (n count bound : ℕ)
+      → Narrowed ws w day n count bound
+      → tried ws w day n count bound ≡ longest (statusOn ws day) (digitsOfKey w) n
+  unfolding tried longest k
+  tried-longest q zero count bound r = refl
+  tried-longest q (suc n) count bound r =
+      let f = statusOn ws day in
+      let x = prefixKey w (suc n) in
       let d = word-digits w in
-      let p = key-take (suc n) (digitsOfKey w) (d .0) (d .1) ∙ ap (λ (k : ℕ). prefixKey k (suc n)) q in
-      rw (p, same (prefixKey w (suc n)), truncated-longest g same q n)
-
--- The status of a code on a day that halving finds.
-abbrev pub foundOn : List ℕ → ℕ → ℕ → Offer
-foundOn ws day k = offerFound ws k day
-
--- The whole word is tried first.
-pub whole-word : (ws : List ℕ) (w day : ℕ) → bestFound ws w day ≡ standing (foundOn ws day w) w (truncated (foundOn ws day) w 14)
-unfolding bestFound
-whole-word ws w day =
-    let f : w - w % 1 ≡ w = omega arith in
-    one-place (foundOn ws day) w 15 1 (omega arith) refl ∙ rw f
+      let p = key-take (suc n) (digitsOfKey w) (d .0) (d .1) ∙ ap (λ (y : ℕ). prefixKey y (suc n)) q in
+      let a = longest f (digitsOfKey w) n in
+      let last = sym (rw sub-one at (one-try f (digitsOfKey w) (suc n) x (omega arith) (sym p))) in
+      let here : x ≤ bound → tried ws w day (suc n) count bound ≡ longest f (digitsOfKey w) (suc n) =
+      λ l. goes-on n count bound r l (λ z. tried-longest q n _ _ (narrows n count bound r z)) ∙ last in
+      elim (order bound x) [
+        | below b ↦
+            passed-by ws w day (suc n) count bound x (omega arith) refl b
+            ∙ rw sub-one (tried-longest q n count bound (fewer-places ws w day n count bound r))
+            ∙ sym (passes (f x) x a (r .closed x b (omega arith)))
+            ∙ last
+        | equal b ↦ here (omega arith)
+        | above b ↦ here (omega arith)
+      ]
 
 -- In a sound book the answer to a key is the longest match of its digits.
 pub best-found :
@@ -194,9 +313,6 @@ pub best-found :
     → bestFound ws w day ≡ matched (statusOn ws day) (digitsOfKey w)
 unfolding bestFound
 best-found ws w day s q =
-    truncated-longest (foundOn ws day) w (statusOn ws day) (λ k. offer-found ws k day s) q 15
+    ap (λ (c : ℕ). tried ws w day 15 c w) (sound-count ws s)
+    ∙ tried-longest ws w day s q 15 (countOf ws) w (all-left ws w day)
     ∙ more-tries (statusOn ws day) (digitsOfKey w) 15 (none-at-zero ws day s) (word-digits w .1)
-
--- The weight of a place is not 0.
-pub place-some : (n place : ℕ) → place ≡ 11 ^ (15 - n) → 0 < place
-place-some n place e = rw e (one-le-pow (15 - n) 11 (lit< tt))

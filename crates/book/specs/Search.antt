@@ -3,7 +3,7 @@
 use mathlib.Core.Path.{_≡_, refl}
 use mathlib.Core.Bool.{Bool, true, false, cond, _&&_}
 use mathlib.Core.List.{List, [], _∷_}
-use Prim.Native.Nat.{ℕ, zero, suc, _+_, _-_, _*_, _/_}
+use Prim.Native.Nat.{ℕ, zero, suc, _+_, _-_, _*_, _/_, min}
 use lib.Dec.{eqb, leb, ltb}
 use lib.ListN.{length}
 use Rattle.dial_code.specs.Digits.{mostDigits}
@@ -44,34 +44,49 @@ unfoldable pub foundUpTo : List ℕ → ℕ → ℕ → ℕ → ℕ
 unfolding halved notAfter entryAt
 foundUpTo ws count k d = halved (upTo ws k d) count 0 count
 
--- The offer word of the last of the first n entries where it is the code's, and closed where it is another's or there is none.
-unfoldable pub lastOffer : List ℕ → ℕ → ℕ → ℕ
+-- The entries to search: none where the words have no sound header.
+unfoldable pub headedCount : List ℕ → ℕ
+unfolding soundHeader
+headedCount ws = cond (leb headerWords (length ws) && soundHeader ws) (countOf ws) 0
+
+-- The last of the first n entries, and one of zeros where there is none.
+unfoldable pub lastEntry : List ℕ → ℕ → Entry
 unfolding entryAt
-lastOffer ws n k =
-    let e = entryAt ws (headerWords + (n - 1) * entryWords) in
-    cond (eqb n 0) 0 (cond (eqb (e .key) k) (e .offer) 0)
+lastEntry ws n = cond (eqb n 0) (entry 0 0 0) (entryAt ws (headerWords + (n - 1) * entryWords))
+
+-- The offer word of an entry where it is the code's, and closed where it is another's.
+unfoldable pub ownWord : Entry → ℕ → ℕ
+ownWord e k = cond (eqb (e .key) k) (e .offer) 0
 
 -- The offer word of a code on a day, as halving finds; closed where the words have no sound header.
 unfoldable pub statusFound : List ℕ → ℕ → ℕ → ℕ
-unfolding soundHeader foundUpTo lastOffer
-statusFound ws k d =
-    cond (leb headerWords (length ws) && soundHeader ws) (lastOffer ws (foundUpTo ws (countOf ws) k d) k) 0
+unfolding headedCount foundUpTo lastEntry ownWord
+statusFound ws k d = ownWord (lastEntry ws (foundUpTo ws (headedCount ws) k d)) k
 
 -- The status that is found, as an offer.
 unfoldable pub offerFound : List ℕ → ℕ → ℕ → Offer
 unfolding statusFound
 offerFound ws k d = heldOffer (offerOf (statusFound ws k d))
 
--- The longest truncation of a word, to its first n places or fewer, whose status is open or blocked; else closed with key 0.
-unfoldable pub truncated : (ℕ → Offer) → ℕ → ℕ → Answer
-unfolding prefixKey
-truncated status w zero = answer 0 Closed
-truncated status w (suc n) = standing (status (prefixKey w (suc n))) (prefixKey w (suc n)) (truncated status w n)
+-- The longest truncation of a word, to its first n places or fewer, that is found open or blocked on a day; else closed with
+-- key 0. So many entries are left to search, and truncations above a bound are passed over: a search leaves the entries it
+-- found, and as the bound the key of the last of them, or what is just below the truncation where that is the same.
+unfoldable pub tried : List ℕ → ℕ → ℕ → ℕ → ℕ → ℕ → Answer
+unfolding prefixKey foundUpTo lastEntry ownWord
+tried ws w d zero count bound = answer 0 Closed
+tried ws w d (suc n) count bound =
+    let k = prefixKey w (suc n) in
+    let found = foundUpTo ws count k d in
+    let e = lastEntry ws found in
+    elim (leb k bound) [
+      | true ↦ standing (heldOffer (offerOf (ownWord e k))) k (tried ws w d n found (min (e .key) (k - 1)))
+      | false ↦ tried ws w d n count bound
+    ]
 
 -- The answer to a word on a day: the word is tried, then its truncations, the longest first.
 unfoldable pub bestFound : List ℕ → ℕ → ℕ → Answer
-unfolding offerFound truncated
-bestFound ws w d = truncated (λ k. offerFound ws k d) w mostDigits
+unfolding headedCount tried
+bestFound ws w d = tried ws w d mostDigits (headedCount ws) w
 
 -- the first three of five places pass, none, all, the one of one, only the middle; no turn
 places :
@@ -135,6 +150,11 @@ three-found :
 unfolding statusFound three turned bookOf k1 k2 key
 three-found = refl
 
+-- 2 open from day 100 on, 2348 blocked from day 105 on, 23480 open from day 100 to 104
+layered : List ℕ
+layered =
+    bookOf 16 7 100 105 (entry (key (2 ∷ [])) 100 260 ∷ entry k2 105 1 ∷ entry k1 100 259 ∷ entry k1 105 0 ∷ [])
+
 -- 234806 and 23481 on some days, and a word that is no key
 best-found :
     bestFound three (key (2 ∷ 3 ∷ 4 ∷ 8 ∷ 0 ∷ 6 ∷ [])) 99
@@ -151,3 +171,28 @@ best-found :
     ∷ []
 unfolding bestFound three bookOf k1 k2 key offerOf
 best-found = refl
+
+-- 234806 by its first five and four digits, 23481 and 23470 by their first, 11 by none; no sound header, and a wrong order
+layers-found :
+    bestFound layered (key (2 ∷ 3 ∷ 4 ∷ 8 ∷ 0 ∷ 6 ∷ [])) 104
+    ∷ bestFound layered (key (2 ∷ 3 ∷ 4 ∷ 8 ∷ 0 ∷ 6 ∷ [])) 105
+    ∷ bestFound layered (key (2 ∷ 3 ∷ 4 ∷ 8 ∷ 1 ∷ [])) 104
+    ∷ bestFound layered (key (2 ∷ 3 ∷ 4 ∷ 7 ∷ 0 ∷ [])) 105
+    ∷ bestFound layered (key (1 ∷ 1 ∷ [])) 105
+    ∷ bestFound [] k1 105
+    ∷ bestFound (2 ∷ 7 ∷ 100 ∷ 100 ∷ k1 ∷ 100 ∷ 259 ∷ []) k1 100
+    ∷ bestFound turned k1 109
+    ∷ bestFound turned 0 109
+    ∷ []
+    ≡ answer k1 (Open (rate 0) 1 1)
+    ∷ answer k2 Blocked
+    ∷ answer (key (2 ∷ [])) (Open (rate 0) 1 2)
+    ∷ answer (key (2 ∷ [])) (Open (rate 0) 1 2)
+    ∷ answer 0 Closed
+    ∷ answer 0 Closed
+    ∷ answer 0 Closed
+    ∷ answer 0 Closed
+    ∷ answer 0 Closed
+    ∷ []
+unfolding bestFound layered turned bookOf k1 k2 key offerOf
+layers-found = refl

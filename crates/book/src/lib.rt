@@ -1,12 +1,13 @@
 // The book (document 01, "The book"): a lent slice of 64-bit words, whatever it holds.
 ghost use mathlib.Core.Path.{_≡_};
-ghost use Prim.Native.Nat.{_+_, _-_, _*_, _≤_};
+ghost use Prim.Native.Nat.{_+_, _-_, _*_, _≤_, min};
 ghost use lib.ListN.{length, drop, replicate};
 ghost use lib.Seq.{sets};
 ghost use Rattle.book.specs.Layout.{headerWords, entryWords, entryAt, entriesFrom, held};
 ghost use Rattle.book.specs.Soundness.{isOfferWord, inRange, begins, follows, soundEntries, allZero, soundHeader, sound};
-ghost use Rattle.book.specs.Status.{isStanding};
-ghost use Rattle.book.specs.Search.{notAfter, foundUpTo, statusFound, offerFound, bestFound};
+ghost use Rattle.rate.specs.OfferWord.{offerOf};
+ghost use Rattle.book.specs.Status.{heldOffer, isStanding};
+ghost use Rattle.book.specs.Search.{notAfter, headedCount, foundUpTo, lastEntry, ownWord, statusFound, offerFound, bestFound};
 ghost use Rattle.book.specs.Answers.{freshRefusal, freshWords, bookRefusal, lookup};
 use dial_code::Keyed;
 use rate::Day;
@@ -238,9 +239,9 @@ fn is_not_after(e: Entry, key: u64, day: u64) -> bool
     e.key < key
 }
 
-// The offer word of a code on a day, found by halving.
-pub fn status_on(words: &[u64], key: u64, day: u64) -> u64
-    ensures { λ r. ⌜ r ≡ statusFound (now (words .entry)) key day ⌝ }
+// The entries to search: none where the words have no sound header.
+fn headed_count(words: &[u64]) -> usize
+    ensures { λ r. ⌜ r ≡ headedCount (now (words .entry)) ⌝ }
 {
     if words.len() < HEADER_WORDS {
         return 0;
@@ -248,21 +249,12 @@ pub fn status_on(words: &[u64], key: u64, day: u64) -> u64
     if !is_headed(words) {
         return 0;
     }
-    let count = words[0] as usize;
-    let found = entries_up_to(words, count, key, day);
-    if found == 0 {
-        return 0;
-    }
-    let e = entry_at(words, HEADER_WORDS + (found - 1) * ENTRY_WORDS);
-    if e.key == key {
-        return e.offer;
-    }
-    0
+    words[0] as usize
 }
 
 // How many of the first entries stand no later than a code and a day, found by halving.
 fn entries_up_to(words: &[u64], count: usize, key: u64, day: u64) -> usize
-    requires { ⌜ headerWords + count * entryWords ≤ length (now words) ⌝ }
+    requires { ⌜ count * entryWords ≤ length (now words) - headerWords ⌝ }
     ensures { λ r. ⌜ r ≡ foundUpTo (now (words .entry)) count key day ⌝ }
 {
     let mut lo: usize = 0;
@@ -279,14 +271,54 @@ fn entries_up_to(words: &[u64], count: usize, key: u64, day: u64) -> usize
     lo
 }
 
+// The last of so many entries, and one of zeros where there is none.
+fn last_entry(words: &[u64], count: usize) -> Entry
+    requires { ⌜ count * entryWords ≤ length (now words) - headerWords ⌝ }
+    ensures { λ r. ⌜ r ≡ lastEntry (now (words .entry)) count ⌝ }
+{
+    if count == 0 {
+        return Entry {
+            key: 0,
+            day: 0,
+            offer: 0,
+        };
+    }
+    entry_at(words, HEADER_WORDS + (count - 1) * ENTRY_WORDS)
+}
+
+// The offer word of an entry where it is the code's, and closed where it is another's.
+fn own_word(e: Entry, key: u64) -> u64
+    ensures { λ r. ⌜ r ≡ ownWord e key ⌝ }
+{
+    if e.key == key {
+        return e.offer;
+    }
+    0
+}
+
+// The offer that a word stands for, closed where it is no offer word.
+fn offer_held(word: u64) -> Offer
+    ensures { λ r. ⌜ r ≡ heldOffer (offerOf word) ⌝ }
+{
+    match rate::word_offer(word) {
+        Stored::Holds(o) => o,
+        Stored::Invalid => Offer::Closed,
+    }
+}
+
+// The offer word of a code on a day, found by halving.
+pub fn status_on(words: &[u64], key: u64, day: u64) -> u64
+    ensures { λ r. ⌜ r ≡ statusFound (now (words .entry)) key day ⌝ }
+{
+    let found = entries_up_to(words, headed_count(words), key, day);
+    own_word(last_entry(words, found), key)
+}
+
 // The status of a code on a day, as an offer.
 pub fn offer_on(words: &[u64], key: u64, day: u64) -> Offer
     ensures { λ r. ⌜ r ≡ offerFound (now (words .entry)) key day ⌝ }
 {
-    match rate::word_offer(status_on(words, key, day)) {
-        Stored::Holds(o) => o,
-        Stored::Invalid => Offer::Closed,
-    }
+    offer_held(status_on(words, key, day))
 }
 
 fn is_standing(offer: Offer) -> bool
@@ -303,27 +335,42 @@ fn is_standing(offer: Offer) -> bool
     }
 }
 
+// A key where it is below another, else what is just below that.
+fn lesser_below(last: u64, key: u64) -> u64
+    ensures { λ r. ⌜ r ≡ min last (key - 1) ⌝ }
+{
+    if last < key {
+        return last;
+    }
+    if key == 0 {
+        return 0;
+    }
+    key - 1
+}
+
 // The offer of the longest beginning of a code or number, given by its key, whose status on a day is open or blocked. A key is
-// truncated place by place, and searched for only where that changed it.
+// truncated place by place. A search leaves the entries it found to search, and says up to which key they go: a truncation above
+// that `bound` has no entry, and is not searched for.
 pub fn best_offer(words: &[u64], key: u64, day: u64) -> Answer
     ensures { λ r. ⌜ r ≡ bestFound (now (words .entry)) key day ⌝ }
 {
-    let whole = offer_on(words, key, day);
-    if is_standing(whole) {
-        return Answer { key, offer: whole };
-    }
-    let mut last = key;
-    let mut place: u64 = 11;
-    let mut n: u64 = 14;
+    let mut count = headed_count(words);
+    let mut bound = key;
+    let mut quotient = key;
+    let mut place: u64 = 1;
+    let mut n: u64 = 15;
     while 0 < n {
-        let k = key - key % place;
-        if k != last {
-            let offer = offer_on(words, k, day);
+        let k = quotient * place;
+        if k <= bound {
+            count = entries_up_to(words, count, k, day);
+            let e = last_entry(words, count);
+            let offer = offer_held(own_word(e, k));
             if is_standing(offer) {
                 return Answer { key: k, offer };
             }
-            last = k;
+            bound = lesser_below(e.key, k);
         }
+        quotient /= 11;
         place *= 11;
         n -= 1;
     }

@@ -1,74 +1,91 @@
--- best_offer meets its contract. The loop's invariant: no truncation to more than `n` places is open or blocked, nor is the key
--- last tried, and `place` is the weight of the n-th place. The measure is `n`. Assumes nothing.
+-- best_offer meets its contract. The loop's invariant: what is left to try, of `n` places or fewer, gives the answer; `place` is
+-- the weight of the n-th place, and `quotient` the key's by it. The measure is `n`. Assumes nothing.
 use mathlib.Core.Path.{_≡_, refl, sym, _∙_}
-use mathlib.Core.Bool.{false}
 use mathlib.Core.Logic.{⊎-elim}
-use Prim.Native.Nat.{_-_, _%_, _≤_, _^_}
-use native.Mathlib.Nat.{mod-le}
+use Prim.Native.Nat.{_-_, _*_, _/_, _^_, _≤_, min}
 use native.Mathlib.Omega.{arith}
 use borrow.Author.Needs.{needs}
+use lib.ListN.{length}
 use Rattle.dial_code.proofs.CountedKeys.{next-weight, weight-most}
-use Rattle.book.specs.Search.{truncated, bestFound}
-use Rattle.book.specs.Status.{isStanding}
-use Rattle.book.proofs.Matching.{foundOn, passes, no-place, one-place, whole-word, place-some}
-use Rattle.book.proofs.Matching.{found-standing, found-closed, closed-try}
+use Rattle.book.specs.Layout.{headerWords, entryWords}
+use Rattle.book.specs.Search.{tried, bestFound}
+use Rattle.book.specs.Status.{standing}
+use Rattle.book.proofs.Halving.{count-room, found-room}
+use Rattle.book.proofs.Matching.{stands, passes, place-key, next-quotient, prefix-most}
+use Rattle.book.proofs.Matching.{starts, no-place, passed-by, searched}
 use Rattle.book.proofs.best_offer.Statement.{statement}
 use Rattle.book.proofs.best_offer.Tie as tie
 
 abbrev Inv-loop : tie.InvT-loop
-Inv-loop words key day last₀ place₀ n₀ last place n =
-    (n ≤ 14)
+Inv-loop words key day count₀ bound₀ quotient₀ place₀ n₀ count bound quotient place n =
+    (n ≤ 15)
     × (place ≡ 11 ^ (15 - n))
-    × (bestFound words key day ≡ truncated (foundOn words day) key n)
-    × (isStanding (foundOn words day last) ≡ false)
+    × (quotient ≡ key / place)
+    × (count * entryWords ≤ length words - headerWords)
+    × (bestFound words key day ≡ tried words key day n count bound)
 
 abbrev μ-loop : tie.MeasureT-loop
-μ-loop words key day last₀ place₀ n₀ last place n = n
+μ-loop words key day count₀ bound₀ quotient₀ place₀ n₀ count bound quotient place n = n
 
-offer-on-requires : tie.Need-offer-on-requires Inv-loop μ-loop
-offer-on-requires c κs = search needs
+-- the answer by the offer found
+at-offer :
+    (c : tie.After-offer-held Inv-loop μ-loop)
+    → let f = c .before .before .before in
+    let l = f .before .before .before .loop in
+    let a = f .before .before .before .before .before .before .args in
+    let k = l .quotient * l .place in
+    bestFound (a .words .now) (a .key) (a .day)
+    ≡ standing (c .offer-held .result) k
+    (tried (a .words .now) (a .key) (a .day) (l .n - 1) (f .entries-up-to .result)
+    (min (c .before .before .last-entry .result .key) (k - 1)))
+at-offer c =
+    let f = c .before .before .before in
+    let l = f .before .before .before .loop in
+    l .inv .4
+    ∙ searched _ _ _ (l .n) (l .count) (l .bound) _
+    (f .before .before .loop-test .taken)
+    (place-key _ _ _ _ (l .inv .1) (l .inv .2))
+    (f .before .if1 .taken)
+    (f .entries-up-to .ensures)
+    (c .before .before .last-entry .ensures)
+    (c .before .own-word .ensures)
+    (c .offer-held .ensures)
+
+headed-count-requires : tie.Need-headed-count-requires Inv-loop μ-loop
+headed-count-requires c κs = search needs
+
+loop-holds : tie.Need-loop-holds Inv-loop μ-loop
+loop-holds c =
+    let e = c .headed-count .ensures in
+    (omega arith, refl, omega arith, rw e (count-room _), starts _ _ _ e)
+
+mul-k : tie.Need-mul-k Inv-loop μ-loop
+mul-k c =
+    let l = c .before .loop in
+    let a = c .before .before .before .before .args in
+    omega (arith, place-key _ _ _ _ (l .inv .1) (l .inv .2), prefix-most (a .key) (l .n))
+
+entries-up-to-requires : tie.Need-entries-up-to-requires Inv-loop μ-loop
+entries-up-to-requires c κs = c .before .before .loop .inv .3
+
+last-entry-requires : tie.Need-last-entry-requires Inv-loop μ-loop
+last-entry-requires c κs = found-room _ _ _ _ (c .before .before .before .loop .inv .3) (c .entries-up-to .ensures)
+
+own-word-requires : tie.Need-own-word-requires Inv-loop μ-loop
+own-word-requires c κs = search needs
+
+offer-held-requires : tie.Need-offer-held-requires Inv-loop μ-loop
+offer-held-requires c κs = search needs
 
 is-standing-requires : tie.Need-is-standing-requires Inv-loop μ-loop
 is-standing-requires c κs = search needs
 
 returns : tie.Need-returns Inv-loop μ-loop
 returns c =
-    let a = c .before .before .before .before .args in
-    let st = foundOn (a .words .now) (a .day) in
-    sym
-    (whole-word (a .words .now) (a .key) (a .day)
-    ∙ found-standing st (a .key) (c .before .before .offer-on .ensures) (c .before .is-standing .ensures) _ (c .if1 .taken))
+    sym (at-offer (c .before .before) ∙ stands _ _ _ (sym (c .before .is-standing .ensures) ∙ c .if2 .taken))
 
-loop-holds : tie.Need-loop-holds Inv-loop μ-loop
-loop-holds c =
-    let p = c .before .before in
-    let a = p .before .before .args in
-    let st = foundOn (a .words .now) (a .day) in
-    let n = found-closed st (a .key) (p .offer-on .ensures) (c .before .is-standing .ensures) (c .if1 .left) in
-    (omega arith, refl, whole-word (a .words .now) (a .key) (a .day) ∙ passes (st (a .key)) (a .key) _ n, n)
-
-rem-k : tie.Need-rem-k Inv-loop μ-loop
-rem-k c = place-some _ _ (c .before .loop .inv .1)
-
-sub-k : tie.Need-sub-k Inv-loop μ-loop
-sub-k c = mod-le _ _
-
-offer-on-requires-2 : tie.Need-offer-on-requires-2 Inv-loop μ-loop
-offer-on-requires-2 c κs = search needs
-
-is-standing-requires-2 : tie.Need-is-standing-requires-2 Inv-loop μ-loop
-is-standing-requires-2 c κs = search needs
-
-returns-2 : tie.Need-returns-2 Inv-loop μ-loop
-returns-2 c =
-    let p = c .before .before in
-    let l = p .before .before .before .loop in
-    let a = p .before .before .before .before .before .before .before .before .args in
-    let st = foundOn (a .words .now) (a .day) in
-    sym
-    (l .inv .2
-    ∙ one-place st (a .key) (l .n) (l .place) (p .before .before .loop-test .taken) (l .inv .1)
-    ∙ found-standing st _ (p .offer-on2 .ensures) (c .before .is-standing2 .ensures) _ (c .if3 .taken))
+lesser-below-requires : tie.Need-lesser-below-requires Inv-loop μ-loop
+lesser-below-requires c κs = search needs
 
 mul-place : tie.Need-mul-place Inv-loop μ-loop
 mul-place c = omega (arith, weight-most _ _ (c .before .loop-test .taken) (c .before .before .loop .inv .1))
@@ -82,25 +99,30 @@ loop-less c = search needs
 loop-again : tie.Need-loop-again Inv-loop μ-loop
 loop-again c =
     let l = c .before .before .loop in
-    let a = c .before .before .before .before .before .before .before .args in
     let h = c .before .loop-test .taken in
-    let st = foundOn (a .words .now) (a .day) in
-    let k : c .if2 .last ≡ a .key - a .key % l .place = ⊎-elim (λ v. v .4) (λ v. omega arith) (c .if2 .came) in
-    let z : isStanding (st (c .if2 .last)) ≡ false =
-    ⊎-elim
-    (λ v. rw (v .4) (found-closed st _ (v .1 .ensures) (v .2 .ensures) (v .3 .left)))
-    (λ v. rw (v .1) (l .inv .3))
-    (c .if2 .came) in (
+    let q = place-key _ _ _ _ (l .inv .1) (l .inv .2) in (
       omega arith,
-      next-weight _ _ h (omega arith) (l .inv .1),
-      l .inv .2 ∙ closed-try st (a .key) (l .n) (l .place) (c .if2 .last) h (l .inv .1) k z,
-      z,
+      next-weight _ _ h (l .inv .0) (l .inv .1),
+      next-quotient _ _ _ (l .inv .2),
+      ⊎-elim (λ v. rw (v .8) (found-room _ _ _ _ (l .inv .3) (v .1 .ensures))) (λ v. rw (v .1) (l .inv .3)) (c .if1 .came),
+      ⊎-elim
+          (λ v.
+          let f : tie.After-entries-up-to Inv-loop μ-loop =
+          record { before = record { before = c .before; if1 = v .0 }; entries-up-to = v .1 } in
+          let o : tie.After-offer-held Inv-loop μ-loop =
+          record { before = record { before = record { before = f; last-entry = v .2 }; own-word = v .3 }; offer-held = v .4 } in
+          let a = c .before .before .before .before .before .args in
+          let k = l .quotient * l .place in
+          let rest = tried (a .words .now) (a .key) (a .day) (l .n - 1) (v .1 .result) (min (v .2 .result .key) (k - 1)) in
+          rw (v .8, v .9, v .7 .ensures) (at-offer o ∙ passes (v .4 .result) k rest (sym (v .5 .ensures) ∙ v .6 .left)))
+          (λ v. rw (v .1, v .2) (l .inv .4 ∙ passed-by _ _ _ _ _ _ _ h q (v .0 .left)))
+          (c .if1 .came),
     )
 
-returns-3 : tie.Need-returns-3 Inv-loop μ-loop
-returns-3 c =
+returns-2 : tie.Need-returns-2 Inv-loop μ-loop
+returns-2 c =
     let l = c .before .loop in
-    sym (l .inv .2 ∙ no-place _ _ (l .n) (omega arith))
+    sym (l .inv .4 ∙ no-place _ _ _ (l .n) _ _ (omega arith))
 
 pub best-offer-spec : {M : Type 1} → statement M
 best-offer-spec =
@@ -108,17 +130,18 @@ best-offer-spec =
     (tie.spec
     Inv-loop
     μ-loop
-    offer-on-requires
+    headed-count-requires
+    loop-holds
+    mul-k
+    entries-up-to-requires
+    last-entry-requires
+    own-word-requires
+    offer-held-requires
     is-standing-requires
     returns
-    loop-holds
-    rem-k
-    sub-k
-    offer-on-requires-2
-    is-standing-requires-2
-    returns-2
+    lesser-below-requires
     mul-place
     sub-n
     loop-less
     loop-again
-    returns-3)
+    returns-2)
