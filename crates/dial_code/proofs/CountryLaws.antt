@@ -1,8 +1,8 @@
 -- The country of a key from its first three places, and the two-digit country codes as bits. Assumes nothing.
 use mathlib.Core.Path.{_≡_, refl, ap, sym, _∙_}
-use mathlib.Core.Bool.{Bool, true, false, _&&_, not}
+use mathlib.Core.Bool.{Bool, true, false, not}
 use mathlib.Core.List.{List, [], _∷_}
-use Prim.Native.Nat.{ℕ, zero, suc, _+_, _-_, _*_, _/_, _%_, _^_, _≤_, _<_}
+use Prim.Native.Nat.{ℕ, suc, _+_, _-_, _*_, _/_, _%_, _^_, _≤_, _<_}
 use native.Mathlib.Omega.{arith}
 use borrow.Author.Tests.{lt-ltb, le-ltb, le-leb, eq-eqb, ne-eqb}
 use lib.Dec.{eqb}
@@ -10,7 +10,7 @@ use lib.ListN.{length}
 use Rattle.dial_code.specs.Key.{keysEnd, firstPlace, placesOf, digitsOfKey}
 use Rattle.dial_code.specs.CountryCode.{oneDigit, twoDigits, country, countryOfKey}
 use Rattle.dial_code.specs.declared.Country.the-variants.{Code, None}
-use Rattle.dial_code.proofs.Tests.{below, equal, above, order, allBelow, each-below}
+use Rattle.dial_code.proofs.Tests.{below, allBelow, each-below}
 
 same : Bool → Bool → Bool
 same true b = b

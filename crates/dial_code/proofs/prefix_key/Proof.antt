@@ -1,7 +1,6 @@
 -- prefix_key meets its contract: with all the places asked for the word stays, else its remainder goes. Assumes nothing.
 use mathlib.Core.Path.{sym}
 use native.Mathlib.Omega.{arith}
-use borrow.Author.Needs.{needs}
 use native.Mathlib.Nat.{one-le-pow, mod-le}
 use lib.Dec.{lit<}
 use Rattle.dial_code.specs.Key.{prefixKey}
