@@ -177,7 +177,7 @@ module _ (count v : ℕ) (h : 1 ≤ count) (l : count ≤ 15) where
   pub country-refused : (at e : ℕ) → codeKey count v ≡ keyed.Refused e → countryField count v at ≡ Refused e
   country-refused at e p = let q = has-none e p in no-case _ _ (le-ltb v (10 ^ count) (q .0)) ∙ ap Refused (q .1)
 
-  -- What the key of an allowed code shows, and a refusal.
+  -- What the key of an allowed code shows, and why another has none.
   allowed : (k : ℕ) → sentCodeKey count v ≡ keyed.Key k → (codeKey count v ≡ keyed.Key k) × (isCodeKey k ≡ true)
   allowed k e = go (isWritten count v) refl (isCode (digits count v)) refl (sym (sent-test count v) ∙ e)
     where
@@ -208,7 +208,7 @@ module _ (count v : ℕ) (h : 1 ≤ count) (l : count ≤ 15) where
           (key-test (digits count v) (digits-are count v) few ∙ c) cc
       go false w u c r = unwritten (code-test count v ∙ rw w r)
 
-  -- The two rules by the tests of the code, for an allowed code; both are refused alike for another.
+  -- A code's rule by the tests of the code, for an allowed code; another is refused alike.
   pub sent-code-tests : (named before at k : ℕ) → sentCodeKey count v ≡ keyed.Key k
       → codeField named before count v at
       ≡ cond (ltb before k)
@@ -217,20 +217,10 @@ module _ (count v : ℕ) (h : 1 ≤ count) (l : count ≤ 15) where
   sent-code-tests named before at k e =
       code-tests named before at k (allowed k e .0) ∙ yes-case _ _ (allowed k e .1)
 
-  pub sent-country-tests : (at k : ℕ) → sentCodeKey count v ≡ keyed.Key k
-      → countryField count v at ≡ cond (isCountry (countryOfKey k) v) (Value v at) (Refused codeNotAllowed)
-  sent-country-tests at k e = country-tests at k (allowed k e .0) ∙ yes-case _ _ (allowed k e .1)
-
-  pub sent-code-refused : (named before at e : ℕ) → sentCodeKey count v ≡ keyed.Refused e → codeField named before count v at ≡ Refused e
+  pub sent-code-refused :
+      (named before at e : ℕ) → sentCodeKey count v ≡ keyed.Refused e → codeField named before count v at ≡ Refused e
   sent-code-refused named before at e q =
       elim (no-code e q) [
         | unwritten p ↦ code-refused named before at e p
         | unallowed k p c r ↦ code-tests named before at k p ∙ no-case _ _ c ∙ ap Refused r
-      ]
-
-  pub sent-country-refused : (at e : ℕ) → sentCodeKey count v ≡ keyed.Refused e → countryField count v at ≡ Refused e
-  sent-country-refused at e q =
-      elim (no-code e q) [
-        | unwritten p ↦ country-refused at e p
-        | unallowed k p c r ↦ country-tests at k p ∙ no-case _ _ c ∙ ap Refused r
       ]

@@ -218,9 +218,12 @@ fn country_field(count: u64, value: u64, end: usize) -> Number
     requires { ⌜ (1 ≤ count) × (count ≤ 15) ⌝ }
     ensures { λ r. ⌜ r ≡ countryField count value end ⌝ }
 {
-    match dial_code::sent_code_key(count, value) {
+    match dial_code::code_key(count, value) {
         Keyed::Refused(e) => Number::Refused(e),
         Keyed::Key(key) => {
+            if !dial_code::is_code_key(key) {
+                return Number::Refused(refusal::CODE_NOT_ALLOWED);
+            }
             if lies_in(key, value) {
                 return Number::Value(value, end);
             }

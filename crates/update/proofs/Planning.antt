@@ -4,7 +4,6 @@ use mathlib.Core.Path.{_≡_, refl, ap, sym, _∙_}
 use mathlib.Core.Bool.{true, false}
 use mathlib.Core.List.{List, [], _∷_}
 use Prim.Native.Nat.{ℕ, _+_, _≤_, _<_, max}
-use native.Mathlib.Omega.{arith}
 use borrow.Author.Tests.{lt-ltb, le-ltb, eq-eqb, ne-eqb}
 use lib.Dec.{eqb, ltb}
 use lib.ListN.{length, getD, set, length-set}
@@ -100,15 +99,6 @@ module _ (p : Plan) (marks : List ℕ) (k : ℕ) where
   unfolding closesBy
   closes-all f = rw (eq-eqb (p .kind) 1 f)
 
-  -- an update closes nothing, whatever the country
-  closes-no-country : p .kind ≡ 3 → (x : Country) → false ≡ closesIn p marks x
-  closes-no-country f (Code n) = rw (ne-eqb (p .kind) 2 (λ g. omega arith), ne-eqb (p .kind) 4 (λ g. omega arith))
-  closes-no-country f None = refl
-
-  pub closes-not : p .kind ≡ 3 → false ≡ closesBy p marks k
-  unfolding closesBy
-  closes-not f = rw (ne-eqb (p .kind) 1 (λ g. omega arith)) (closes-no-country f (countryOfKey k))
-
   module _ (f : p .kind ≡ 1 → ⊥) where
     pub closes-nowhere : countryOfKey k ≡ None → false ≡ closesBy p marks k
     unfolding closesBy
@@ -123,9 +113,13 @@ module _ (p : Plan) (marks : List ℕ) (k : ℕ) where
       unfolding closesBy
       closes-country g h = rw (ne-eqb (p .kind) 1 f, e, ne-eqb (p .kind) 2 g, eq-eqb (p .kind) 4 h)
 
-      pub closes-none : (p .kind ≡ 2 → ⊥) → (p .kind ≡ 4 → ⊥) → false ≡ closesBy p marks k
-      unfolding closesBy
-      closes-none g h = rw (ne-eqb (p .kind) 1 f, e, ne-eqb (p .kind) 2 g, ne-eqb (p .kind) 4 h)
+    closes-no-country : (p .kind ≡ 2 → ⊥) → (p .kind ≡ 4 → ⊥) → (x : Country) → false ≡ closesIn p marks x
+    closes-no-country g h (Code n) = rw (ne-eqb (p .kind) 2 g, ne-eqb (p .kind) 4 h)
+    closes-no-country g h None = refl
+
+    pub closes-none : (p .kind ≡ 2 → ⊥) → (p .kind ≡ 4 → ⊥) → false ≡ closesBy p marks k
+    unfolding closesBy
+    closes-none g h = rw (ne-eqb (p .kind) 1 f) (closes-no-country g h (countryOfKey k))
 
 -- The marks of a country, of one past the table, and of lines one at a time.
 pub marks-one : {x : Country} (marks : List ℕ) {n : ℕ} → x ≡ Code n → set marks n 1 ≡ marked x marks

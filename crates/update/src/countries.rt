@@ -27,21 +27,27 @@ pub fn closes(plan: Plan, marks: &[u8; 1000], key: u64) -> bool
     if plan.kind == notice::FULL {
         return true;
     }
-    if plan.kind == notice::UPDATE {
-        return false;
-    }
-    match dial_code::country_of_key(key) {
-        Country::None => false,
-        Country::Code(country) => {
-            if plan.kind == notice::PARTIAL {
+    if plan.kind == notice::PARTIAL {
+        match dial_code::country_of_key(key) {
+            Country::Code(country) => {
                 return is_marked(marks, country);
             }
-            if plan.kind == notice::REPLACEMENT {
-                return country == plan.country;
+            Country::None => {
+                return false;
             }
-            false
         }
     }
+    if plan.kind == notice::REPLACEMENT {
+        match dial_code::country_of_key(key) {
+            Country::Code(country) => {
+                return country == plan.country;
+            }
+            Country::None => {
+                return false;
+            }
+        }
+    }
+    false
 }
 
 // Marks the country of a key.
