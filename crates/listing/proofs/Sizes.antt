@@ -3,22 +3,13 @@
 use mathlib.Core.Path.{_≡_, refl, ap, sym, _∙_}
 use mathlib.Core.Bool.{Bool, true, false}
 use mathlib.Core.List.{List, [], _∷_, _++_, append-nil}
-use Prim.Native.Nat.{ℕ, _*_, _^_, _≤_, _<_}
-use native.Mathlib.Nat.{pow-le-pow-right}
+use Prim.Native.Nat.{ℕ, _*_, _≤_}
 use native.Mathlib.Omega.{arith}
-use lib.Dec.{lit<}
 use lib.ListN.{length, length-append}
 use Rattle.varint.specs.Several.{encodeAll, encodableAll, sizeOfAll}
 use Rattle.varint.proofs.Laws.{size}
 use Rattle.varint.proofs.Several.{all-nil, all-sized, bytes-nil, length-bytes-cons}
-use Rattle.dial_code.specs.Digits.{value}
-use Rattle.dial_code.specs.Key.{keysEnd, placesOf}
 use Rattle.dial_code.specs.Code.{codeOf}
-use Rattle.dial_code.proofs.Tests.{below, equal, above, order}
-use Rattle.dial_code.proofs.DigitLaws.{value-below}
-use Rattle.dial_code.proofs.CountryLaws.{all-places}
-use Rattle.dial_code.proofs.CodeLaws.{length-places, digits-places}
-use Rattle.dial_code.proofs.KeyCode.{code-opens, no-code}
 use Rattle.rate.specs.OfferWord.{offerOf, inRange}
 use Rattle.rate.specs.declared.Offer.{Offer}
 use Rattle.rate.specs.declared.Offer.the-variants.{Closed, Blocked, Open}
@@ -28,30 +19,11 @@ use Rattle.rate.proofs.Words.{only-word}
 use Rattle.notice.specs.Layout.{offerFields, lineFields, encodeLine, encodeLines}
 use Rattle.notice.specs.declared.Line.{Line}
 use Rattle.notice.proofs.LayoutLaws.{line-opens, line-bytes, lines-nil, lines-cons, lines-append}
-use Rattle.notice.proofs.Sizes.{one-more, terms-encodable}
+use Rattle.notice.proofs.Sizes.{code-fits, one-more, terms-encodable}
 use Rattle.book.specs.Status.{heldOffer}
 use Rattle.book.specs.declared.Entry.{Entry}
 use Rattle.listing.specs.Pass.{stands, entryLine, addedBy}
 use Rattle.listing.proofs.Passing.{passed, offerAt}
-
--- The code of any word has at most 15 digits.
-code-fits : (w : ℕ) → (codeOf w .count ≤ 15) × (codeOf w .value < 10 ^ 15)
-code-fits w = elim (order w keysEnd) [
-  | below l ↦ within l
-  | equal l ↦ beyond (omega arith)
-  | above l ↦ beyond (omega arith)
-]
-  where
-    beyond : keysEnd ≤ w → (codeOf w .count ≤ 15) × (codeOf w .value < 10 ^ 15)
-    beyond l = rw (no-code w l) (omega arith)
-
-    within : w < keysEnd → (codeOf w .count ≤ 15) × (codeOf w .value < 10 ^ 15)
-    within l =
-        let n = length-places 15 w in
-        let p : 10 ^ length (placesOf 15 w) ≤ 10 ^ 15 =
-        pow-le-pow-right (lit< tt) {i = length (placesOf 15 w)} {j = 15} n in
-        let v = value-below (placesOf 15 w) (digits-places 15 w l) in
-        rw (code-opens w, all-places w l) (n, omega arith)
 
 -- What any word stands for is in range.
 pub offer-in-range : (w : ℕ) → inRange (offerAt w) ≡ true

@@ -15,3 +15,4 @@ pub mod CountryCodes
 pub mod LineBack
 pub mod NoticeBack
 pub mod Sizes
+pub mod LineSizes

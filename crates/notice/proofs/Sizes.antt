@@ -11,6 +11,13 @@ use lib.Dec.{eqb, lit<}
 use lib.ListN.{length}
 use Rattle.varint.specs.Several.{encodableAll, sizeOfAll}
 use Rattle.varint.proofs.Several.{all-nil, all-cons, all-sized}
+use Rattle.dial_code.specs.Key.{keysEnd, placesOf}
+use Rattle.dial_code.specs.Code.{codeOf}
+use Rattle.dial_code.proofs.Tests.{below, equal, above, order}
+use Rattle.dial_code.proofs.DigitLaws.{value-below}
+use Rattle.dial_code.proofs.CountryLaws.{all-places}
+use Rattle.dial_code.proofs.CodeLaws.{length-places, digits-places}
+use Rattle.dial_code.proofs.KeyCode.{code-opens, no-code}
 use Rattle.rate.specs.OfferWord.{inRange}
 use Rattle.rate.specs.declared.Offer.{Offer}
 use Rattle.rate.specs.declared.Offer.the-variants.{Closed, Blocked, Open}
@@ -19,6 +26,25 @@ use Rattle.notice.specs.Layout.{offerFields, countryCount, headerFields,
 use Rattle.notice.proofs.Links.{yes-case, no-case}
 use Rattle.notice.proofs.LayoutLaws.{header-bytes}
 use Rattle.notice.proofs.NoticeBack.{Leads, count-range, afterReceived, fields-open}
+
+-- The code of any word has at most 15 digits.
+pub code-fits : (w : ℕ) → (codeOf w .count ≤ 15) × (codeOf w .value < 10 ^ 15)
+code-fits w = elim (order w keysEnd) [
+  | below l ↦ within l
+  | equal l ↦ beyond (omega arith)
+  | above l ↦ beyond (omega arith)
+]
+  where
+    beyond : keysEnd ≤ w → (codeOf w .count ≤ 15) × (codeOf w .value < 10 ^ 15)
+    beyond l = rw (no-code w l) (omega arith)
+
+    within : w < keysEnd → (codeOf w .count ≤ 15) × (codeOf w .value < 10 ^ 15)
+    within l =
+        let n = length-places 15 w in
+        let p : 10 ^ length (placesOf 15 w) ≤ 10 ^ 15 =
+        pow-le-pow-right (lit< tt) {i = length (placesOf 15 w)} {j = 15} n in
+        let v = value-below (placesOf 15 w) (digits-places 15 w l) in
+        rw (code-opens w, all-places w l) (n, omega arith)
 
 -- One number more has an encoding, and so have an offer's fields.
 pub one-more : (n : ℕ) (ns : List ℕ) → n < 2 ^ 63 → encodableAll ns ≡ true → encodableAll (n ∷ ns) ≡ true

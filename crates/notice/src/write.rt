@@ -101,11 +101,27 @@ fn write_fields(out: &mut [u8], at: usize, fields: Fields) -> Written
     varint::write_numbers(out, at, &numbers[0..count])
 }
 
-// How many bytes a line takes; 0 where its rate or its last field is too large to have an encoding.
+// How many bytes a line takes; 0 where its last field is too large to have an encoding.
 pub fn line_size(line: Line) -> usize
     ensures { λ r. ⌜ r ≡ sizeOfAll (lineFields line) ⌝ }
 {
-    fields_size(line_fields(line))
+    let last = varint::number_size(line.listed);
+    if last == 0 {
+        return 0;
+    }
+    // The digit count, the status and the decimals take a byte each.
+    let code = dial_code::key_code(line.key);
+    let most = varint::number_size(code.value) + last + 2;
+    let offer = line.offer;
+    match offer {
+        Offer::Closed => most,
+        Offer::Blocked => most,
+        Offer::Open { rate, first, next } => {
+            let price = varint::number_size(rate.0 as u64);
+            let start = varint::number_size(first as u64);
+            most + 1 + price + start + varint::number_size(next as u64)
+        }
+    }
 }
 
 // Writes a line at a position of a lent slice. Where there is no room, or a field is too large, no byte changes.

@@ -2,7 +2,7 @@
 -- Assumes nothing.
 use mathlib.Core.Path.{_≡_, refl, ap, sym, _∙_}
 use mathlib.Core.Logic.{_≢_}
-use mathlib.Core.Bool.{Bool, true, false, cond, and-eq-true-iff}
+use mathlib.Core.Bool.{Bool, true, false, cond, _&&_, and-eq-true-iff}
 use mathlib.Core.List.{List, [], _∷_, _++_, append-assoc}
 use Prim.Native.Nat.{ℕ, suc, _+_, _^_, _≤_, _<_}
 use native.Mathlib.Omega.{arith}
@@ -36,6 +36,16 @@ all-cons n ns h = rw (lt-ltb _ _ h)
 not-first : (n : ℕ) (ns : List ℕ) → 2 ^ 63 ≤ n → encodableAll (n ∷ ns) ≡ false
 unfolding encodableAll
 not-first n ns h = rw (le-ltb _ _ h)
+
+-- Where the last is too large, they have none.
+pub last-large : (ns : List ℕ) (n : ℕ) → 2 ^ 63 ≤ n → encodableAll (ns ++ (n ∷ [])) ≡ false
+unfolding encodableAll
+last-large [] n h = not-first n [] h
+last-large (m ∷ ns) n h = ap (λ (t : Bool). encodable m && t) (last-large ns n h) ∙ none (encodable m)
+  where
+    none : (t : Bool) → (t && false) ≡ false
+    none true = refl
+    none false = refl
 
 -- No numbers have no bytes; the first number's bytes, and those of the others.
 pub bytes-nil : encodeAll [] ≡ []
@@ -82,6 +92,27 @@ module _ (ns : List ℕ) (i : ℕ) (h : i < length ns) where
 pub rests : (ns : List ℕ) (i : ℕ) → length ns ≤ i → (encodableAll (drop i ns) ≡ true) × (encodeAll (drop i ns) ≡ [])
 unfolding encodableAll encodeAll
 rests ns i h = rw (drop-of-length-le ns h) (refl, refl)
+
+-- What number_size gives: at most 9, and the bytes of a number that has an encoding, one where it is below 128.
+pub size-most : (n r : ℕ) → r ≡ sizeOf n → r ≤ 9
+unfolding sizeOf
+size-most n r e = go (encodable n) e
+  where
+    go : (t : Bool) → r ≡ cond t (length (encode n)) 0 → r ≤ 9
+    go true q = omega (arith, size n)
+    go false q = omega arith
+
+pub sized : (n r : ℕ) → r ≡ sizeOf n → n < 2 ^ 63 → r ≡ length (encode n)
+unfolding sizeOf
+sized n r e h = e ∙ rw (lt-ltb _ _ h)
+
+pub one-byte : (n : ℕ) → n < 128 → length (encode n) ≡ 1
+unfolding encode
+one-byte n h = rw (lt-ltb _ _ h)
+
+pub none-all : (ns : List ℕ) → encodableAll ns ≡ false → sizeOfAll ns ≡ 0
+unfolding sizeOfAll
+none-all ns e = rw e
 
 pub all-sized : (ns : List ℕ) → encodableAll ns ≡ true → sizeOfAll ns ≡ length (encodeAll ns)
 unfolding sizeOfAll
