@@ -194,8 +194,9 @@ pub fn key_code(key: u64) -> Code
                 value,
             };
         }
-        value = value * 10 + (rest / FIRST_PLACE - 1);
-        rest = rest % FIRST_PLACE * 11;
+        let place = rest / FIRST_PLACE;
+        value = value * 10 + (place - 1);
+        rest = (rest - place * FIRST_PLACE) * 11;
         left -= 1;
     }
     Code {
