@@ -13,7 +13,6 @@ output. Without --fresh every run makes the same records. They take more steps t
 tests/batch_cases has the records and the cases.
 """
 
-import argparse
 import collections
 import subprocess
 import sys
@@ -126,20 +125,10 @@ def run_fresh(seconds, seed, program):
     return 0
 
 
-def main():
-    if "--fresh" in sys.argv:
-        parser = argparse.ArgumentParser()
-        parser.add_argument("--fresh", type=float, required=True)
-        parser.add_argument("--seed", type=int, default=time.time_ns() % 2**32)
-        parser.add_argument("--program", default=str(vectors.ROOT / "target" / "bin" / "batch_vectors"))
-        given = parser.parse_args()
-        return run_fresh(given.fresh, given.seed, given.program)
-    if sys.argv[1:] == ["--counts"]:
-        made = scripts()
-        say(sum(len(script.records) for script in made), counted(made))
-        return 0
-    return vectors.run("tests/batches.py", "batch_vectors", make, __doc__)
+def say_counts():
+    made = scripts()
+    say(sum(len(script.records) for script in made), counted(made))
 
 
 if __name__ == "__main__":
-    sys.exit(main())
+    sys.exit(vectors.run_with_fresh("tests/batches.py", "batch_vectors", make, __doc__, run_fresh, say_counts))

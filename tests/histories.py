@@ -13,7 +13,6 @@ Without --fresh every run makes the same histories. They take more steps than th
 tests/history_cases has the replay and the cases.
 """
 
-import argparse
 import collections
 import subprocess
 import sys
@@ -147,20 +146,10 @@ def run_fresh(seconds, seed, program):
     return 0
 
 
-def main():
-    if "--fresh" in sys.argv:
-        parser = argparse.ArgumentParser()
-        parser.add_argument("--fresh", type=float, required=True)
-        parser.add_argument("--seed", type=int, default=time.time_ns() % 2**32)
-        parser.add_argument("--program", default=str(vectors.ROOT / "target" / "bin" / "replay"))
-        given = parser.parse_args()
-        return run_fresh(given.fresh, given.seed, given.program)
-    if sys.argv[1:] == ["--counts"]:
-        made = histories()
-        say(len(made), sum(len(replay.records) for replay in made), counted(made))
-        return 0
-    return vectors.run("tests/histories.py", "replay", make, __doc__)
+def say_counts():
+    made = histories()
+    say(len(made), sum(len(replay.records) for replay in made), counted(made))
 
 
 if __name__ == "__main__":
-    sys.exit(main())
+    sys.exit(vectors.run_with_fresh("tests/histories.py", "replay", make, __doc__, run_fresh, say_counts))

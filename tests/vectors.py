@@ -1,7 +1,9 @@
 """What the makers of vectors share: random choices, and the files of a crate written or checked. Nothing to run here."""
 
+import argparse
 import random
 import sys
+import time
 from pathlib import Path
 
 ROOT = Path(__file__).resolve().parent.parent
@@ -43,3 +45,18 @@ def run(script, crate, make, usage):
     for path, content in files.items():
         path.write_bytes(content)
     return 0
+
+
+def run_with_fresh(script, crate, make, usage, fresh, counts):
+    """As run; with --fresh SECONDS fresh cases on the compiled program, and with --counts what the committed ones hold."""
+    if "--fresh" in sys.argv:
+        parser = argparse.ArgumentParser()
+        parser.add_argument("--fresh", type=float, required=True)
+        parser.add_argument("--seed", type=int, default=time.time_ns() % 2**32)
+        parser.add_argument("--program", default=str(ROOT / "target" / "bin" / crate))
+        given = parser.parse_args()
+        return fresh(given.fresh, given.seed, given.program)
+    if sys.argv[1:] == ["--counts"]:
+        counts()
+        return 0
+    return run(script, crate, make, usage)

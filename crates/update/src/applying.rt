@@ -3,14 +3,16 @@ ghost use mathlib.Core.Path.{_≡_};
 ghost use mathlib.Core.Bool.{true};
 ghost use Prim.Native.Nat.{_+_, _*_, _≤_};
 ghost use lib.ListN.{length};
+ghost use Rattle.dial_code.specs.CountryCode.{countryOfKey};
 ghost use Rattle.notice.specs.NoticeRule.{lines, checkNotice};
 ghost use Rattle.notice.specs.declared.Checked.the-variants.{Notice};
 ghost use Rattle.book.specs.Layout.{wordsOf, bookOf, periodOf, latestOf};
 ghost use Rattle.book.specs.Soundness.{sound};
 ghost use Rattle.history.specs.Applying.{inBook, refusedApply, applyAnswer, applied};
-ghost use Rattle.update.specs.Plans.{latestBy, linesRead, sentLines, mergedBy, stored};
+ghost use Rattle.update.specs.Plans.{latestBy, marked, marksOf, marksFor, linesRead, sentLines, mergedBy, stored};
 use crate::Place;
 use crate::Plan;
+use dial_code::Country;
 use history::Applied;
 use notice::Checked;
 use notice::LineRead;
@@ -100,6 +102,52 @@ fn refused(e: u64) -> Applied
     }
 }
 
+// Marks the country of a key.
+fn mark(marks: &mut [u8; 1000], key: u64)
+    requires { ⌜ length (now marks) ≤ 1000 ⌝ }
+    ensures { λ _. ⌜ now (marks .exit) ≡ marked (countryOfKey key) (now (marks .entry)) ⌝ }
+{
+    if let Country::Code(country) = dial_code::country_of_key(key) {
+        if country < 1000 {
+            let at = country as usize;
+            marks[at] = 1;
+        }
+    }
+}
+
+// Marks the countries of all lines.
+fn mark_lines(notice: &[u8], m: Summary, marks: &mut [u8; 1000])
+    requires { ⌜ (length (now marks) ≤ 1000) × (linesRead (now notice) m ≡ lines (sentLines (now notice) m)) ⌝ }
+    ensures { λ _. ⌜ now (marks .exit) ≡ marksOf (now (marks .entry)) (sentLines (now (notice .entry)) m) ⌝ }
+{
+    let mut at = m.start;
+    let mut left = m.lines;
+    while 0 < left {
+        match notice::line_at(notice, at) {
+            LineRead::Refused(_) => {
+                return;
+            }
+            LineRead::Read(line, end) => {
+                mark(marks, line.key);
+                at = end;
+                left -= 1;
+            }
+        }
+    }
+}
+
+// For a partial notice the countries named are first noted in a table of 1,000 marks, one for each value from 0 to 999.
+fn marks_for(notice: &[u8], m: Summary) -> [u8; 1000]
+    requires { ⌜ linesRead (now notice) m ≡ lines (sentLines (now notice) m) ⌝ }
+    ensures { λ r. ⌜ r ≡ marksFor (m .kind) (sentLines (now (notice .entry)) m) ⌝ }
+{
+    let mut marks = [0u8; 1000];
+    if m.kind == notice::PARTIAL {
+        mark_lines(notice, m, &mut marks);
+    }
+    marks
+}
+
 // Applies a notice that has been checked. Nothing is written until nothing can be refused.
 fn apply_checked(old: &[u64], notice: &[u8], m: Summary, new: &mut [u64]) -> Applied
     requires { ⌜ (sound (now old) ≡ true) × (4 ≤ length (now new)) × (checkNotice (now notice) ≡ Notice m) ⌝ }
@@ -110,7 +158,7 @@ fn apply_checked(old: &[u64], notice: &[u8], m: Summary, new: &mut [u64]) -> App
         return refused(refusal::RECEIVED_EARLIER);
     }
     let plan = crate::plan_of(m, old[1], old[3]);
-    let marks = crate::countries::marks_for(notice, m);
+    let marks = marks_for(notice, m);
     let counted = merge(old, notice, m, plan, &marks, new, false);
     if book::entries_held(new.len()) < counted.count {
         return refused(refusal::BOOK_FULL);

@@ -12,8 +12,8 @@ use Rattle.notice.specs.declared.Line.{Line}
 use Rattle.update.specs.Plans.{marksOf}
 use Rattle.update.proofs.Planning.{marks-kept}
 use Rattle.update.proofs.Passing.{Marking, marks-next, marks-refused, marks-over}
-use Rattle.update.proofs.countries.mark_lines.Statement.{statement}
-use Rattle.update.proofs.countries.mark_lines.Tie as tie
+use Rattle.update.proofs.applying.mark_lines.Statement.{statement}
+use Rattle.update.proofs.applying.mark_lines.Tie as tie
 
 -- the lines that are left comes to the marks of all of them. The measure is the number of lines left. Assumes nothing.
 
