@@ -6,9 +6,9 @@ use Prim.Native.Nat.{ℕ, zero, suc, _+_, _-_, _*_, _/_, _%_, _^_, _≤_, _<_}
 use native.Mathlib.Nat.{pow-suc, pow-succ', pow-le-pow-right, one-le-pow}
 use native.Mathlib.Nat.{div-one, div-eq-of-lt, div-div-eq-div-mul, div-lt-iff-lt-mul}
 use native.Mathlib.Omega.{arith}
-use borrow.Author.Tests.{eqb-true, leb-true, lt-leb, le-leb, lt-ltb, le-ltb}
-use lib.Dec.{eqb, leb, lit<}
-use lib.ListN.{length, getD}
+use borrow.Author.Tests.{leb-true, lt-leb, le-leb, lt-ltb, le-ltb}
+use lib.Dec.{leb, lit<}
+use lib.ListN.{length}
 use Rattle.refusal.specs.Refusal.{outOfRange}
 use Rattle.dial_code.specs.Digits.{every, isDigit, digits, isWritten}
 use Rattle.dial_code.specs.Key.{keyFrom, key, codeKey}
@@ -17,7 +17,7 @@ use Rattle.dial_code.specs.declared.Country.the-variants.{None}
 use Rattle.dial_code.specs.declared.Keyed.the-variants.{Key, Refused}
 use Rattle.dial_code.proofs.DigitLaws.{length-digits, digits-last, digits-are}
 use Rattle.dial_code.proofs.KeyLaws.{below-end, digits-back}
-use Rattle.dial_code.proofs.Tests.{both, below, equal, above, order, allBelow, each-below}
+use Rattle.dial_code.proofs.Tests.{both, below, equal, above, order}
 
 key-last : (i d : ℕ) (ds : List ℕ) → keyFrom i (ds ++ (d ∷ [])) ≡ keyFrom i ds + (d + 1) * 11 ^ (15 - (i + length ds))
 unfolding keyFrom
@@ -49,31 +49,9 @@ next-weight k w h l e =
 pub weight-most : (k w : ℕ) → 0 < k → w ≡ 11 ^ (15 - k) → w ≤ 11 ^ 14
 weight-most k w h e = rw e (pow-le-pow-right (lit< tt) {i = 15 - k} {j = 14} (omega arith))
 
--- The table of the places' weights.
-abbrev pub weights : List ℕ
-weights =
-    4177248169415651
-    ∷ 379749833583241
-    ∷ 34522712143931
-    ∷ 3138428376721
-    ∷ 285311670611
-    ∷ 25937424601
-    ∷ 2357947691
-    ∷ 214358881
-    ∷ 19487171
-    ∷ 1771561
-    ∷ 161051
-    ∷ 14641
-    ∷ 1331
-    ∷ 121
-    ∷ 11
-    ∷ 1
-    ∷ []
-
-pub weight-at : (place : ℕ) → place ≤ 15 → getD weights place 0 ≡ 11 ^ (15 - place)
-unfolding allBelow
-weight-at place h =
-    eqb-true _ _ (each-below (λ (k : ℕ). eqb (getD weights k 0) (11 ^ (15 - k))) 16 refl place (omega arith))
+-- The weight of a place that is known.
+pub weighs : (k : ℕ) {place : ℕ} → place ≡ k → 11 ^ (15 - k) ≡ 11 ^ (15 - place)
+weighs k e = rw e
 
 -- The key of a code sent so is below the keys' end.
 pub sent-below : (count v : ℕ) → count ≤ 15 → keyFrom 1 (digits count v) < 11 ^ 15

@@ -14,26 +14,6 @@ pub const KEYS_END: u64 = 4_177_248_169_415_651;
 const FIRST_PLACE: u64 = 379_749_833_583_241;
 
 const THIRD_PLACE: u64 = 3_138_428_376_721;
-// The weight of each place of a key, 11 to the power 15 - place, from place 0 on.
-const WEIGHTS: [u64; 16] = [
-    4_177_248_169_415_651,
-    379_749_833_583_241,
-    34_522_712_143_931,
-    3_138_428_376_721,
-    285_311_670_611,
-    25_937_424_601,
-    2_357_947_691,
-    214_358_881,
-    19_487_171,
-    1_771_561,
-    161_051,
-    14_641,
-    1_331,
-    121,
-    11,
-    1,
-];
-
 // The country codes of two digits: a bit for each value from 0 to 63, and from 64 on.
 const TWO_DIGITS_LOW: u64 = 0xf7fb_fb97_c810_0000;
 
@@ -63,13 +43,29 @@ fn wide(x: u8) -> u64
     x as u64
 }
 
-// The weight of a place.
+// The weight of a place, 11 to the power 15 - place.
 fn weight_of(place: u64) -> u64
     requires { ⌜ place ≤ 15 ⌝ }
     ensures { λ r. ⌜ r ≡ 11 ^ (15 - place) ⌝ }
 {
-    let at = place as usize;
-    WEIGHTS[at]
+    match place {
+        0 => 4_177_248_169_415_651,
+        1 => 379_749_833_583_241,
+        2 => 34_522_712_143_931,
+        3 => 3_138_428_376_721,
+        4 => 285_311_670_611,
+        5 => 25_937_424_601,
+        6 => 2_357_947_691,
+        7 => 214_358_881,
+        8 => 19_487_171,
+        9 => 1_771_561,
+        10 => 161_051,
+        11 => 14_641,
+        12 => 1_331,
+        13 => 121,
+        14 => 11,
+        _ => 1,
+    }
 }
 
 // The key of a code sent as a count of digits and a value; refusal 4 where one is outside its range.

@@ -94,7 +94,7 @@ pub enum Scan {
 pub fn read_ranged(s: &[u8], at: usize, least: u64, most: u64) -> Number
     ensures { λ r. ⌜ r ≡ readRanged (now (s .entry)) at least most ⌝ }
 {
-    match varint::read_number(s, at) {
+    match varint::read_field(s, at) {
         Number::Refused(e) => Number::Refused(e),
         Number::Value(n, next) => {
             if n < least {
@@ -157,7 +157,7 @@ fn read_code(named: u64, before: u64, s: &[u8], at: usize) -> Number
 fn read_listed(named: u64, before: u64, last: u64, s: &[u8], at: usize) -> Number
     ensures { λ r. ⌜ r ≡ readListed named before last (now (s .entry)) at ⌝ }
 {
-    match varint::read_number(s, at) {
+    match varint::read_field(s, at) {
         Number::Refused(e) => Number::Refused(e),
         Number::Value(listed, next) => {
             if Day::LAST.0 + 1 < listed {
@@ -286,7 +286,7 @@ fn read_dated(kind: u64, s: &[u8], at: usize) -> HeaderRead
 pub fn read_header(s: &[u8]) -> HeaderRead
     ensures { λ r. ⌜ r ≡ readHeader (now (s .entry)) ⌝ }
 {
-    match varint::read_number(s, 0) {
+    match varint::read_field(s, 0) {
         Number::Refused(e) => HeaderRead::Refused(e),
         Number::Value(kind, next) => {
             if kind < 1 {

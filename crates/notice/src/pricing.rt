@@ -70,7 +70,7 @@ fn read_rate(s: &[u8], at: usize) -> Terms
 pub fn read_terms(s: &[u8], at: usize) -> Terms
     ensures { λ r. ⌜ r ≡ readTerms (now (s .entry)) at ⌝ }
 {
-    match varint::read_number(s, at) {
+    match varint::read_field(s, at) {
         Number::Refused(e) => Terms::Refused(e),
         Number::Value(status, next) => {
             if status == 0 {

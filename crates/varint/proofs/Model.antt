@@ -13,7 +13,7 @@ use lib.Dec.{eqb, ltb, lit<}
 use Rattle.refusal.specs.Refusal.{bytesEnd, notShortest}
 use Rattle.varint.specs.declared.Number.{Number}
 use Rattle.varint.specs.declared.Number.the-variants.{Value, Refused}
-use Rattle.varint.specs.Reading.{above, groups, from}
+use Rattle.varint.specs.Reading.{above, groups, from, readNumber}
 
 -- What the bytes ahead of `at` read as, put above the groups before them, which come to `sum` in units below `place`.
 unfoldable pub onto : ℕ → ℕ → ℕ → Number → Number
@@ -97,3 +97,10 @@ room place left sum v h e l u =
       total = let w : v ≤ 127 = omega arith in omega (arith, mul-le-mul-left place w);
       again = again;
     }
+
+-- one byte below 128 is a number
+pub one-group : (s : List ℕ) (at b : ℕ) → at < length s → b ≡ getD s at 0 → b < 128 → readNumber s at ≡ Value b (at + 1)
+unfolding readNumber
+one-group s at b l e u =
+    last 9 1 0 at s (begins at (groups 9 (drop at s))) b (omega arith) l e u (λ z. refl)
+    ∙ ap (λ (v : ℕ). Value v (at + 1)) (omega arith)

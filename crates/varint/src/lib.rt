@@ -66,6 +66,19 @@ pub fn read_number(s: &[u8], at: usize) -> Number
     Number::Refused(refusal::NOT_SHORTEST)
 }
 
+// The number at a position of a slice, the short way where it has one group, as most fields do.
+pub fn read_field(s: &[u8], at: usize) -> Number
+    ensures { λ r. ⌜ r ≡ readNumber (now (s .entry)) at ⌝ }
+{
+    if at < s.len() {
+        let b = wide(s[at]);
+        if b < 128 {
+            return Number::Value(b, at + 1);
+        }
+    }
+    read_number(s, at)
+}
+
 // How many bytes a number takes; 0 where it is too large to have an encoding.
 pub fn number_size(n: u64) -> usize
     ensures { λ r. ⌜ r ≡ sizeOf n ⌝ }

@@ -12,10 +12,10 @@ use Rattle.notice.proofs.read_header.Tie as tie
 
 kind-read : (c : tie.After-kind)
     → readNumber (c .before .before .before .before .args .s .now) 0 ≡ Value (c .kind .given .0 .0) (c .kind .given .0 .1 .0)
-kind-read c = sym (c .before .before .read-number .ensures) ∙ c .kind .given .1
+kind-read c = sym (c .before .before .read-field .ensures) ∙ c .kind .given .1
 
-read-number-requires : tie.Need-read-number-requires
-read-number-requires c κs = search needs
+read-field-requires : tie.Need-read-field-requires
+read-field-requires c κs = search needs
 
 enum-known-e : tie.Need-enum-known-e
 enum-known-e c = search needs
@@ -39,7 +39,7 @@ read-dated-requires c κs = search needs
 
 returns-3 : tie.Need-returns-3
 unfolding readHeader
-returns-3 c = sym (on-refused _ _ (sym (c .before .before .before .read-number .ensures) ∙ c .before .e .given .1))
+returns-3 c = sym (on-refused _ _ (sym (c .before .before .before .read-field .ensures) ∙ c .before .e .given .1))
 
 returns-4 : tie.Need-returns-4
 unfolding readHeader
@@ -53,7 +53,7 @@ pub read-header-spec : {M : Type 1} → statement M
 read-header-spec =
     tie.close
     (tie.spec
-    read-number-requires
+    read-field-requires
     enum-known-e
     enum-known-kind
     returns

@@ -12,10 +12,10 @@ use Rattle.notice.proofs.read_listed.Tie as tie
 listed-read : (c : tie.After-listed) →
     let a = c .before .before .before .before .args in
     readNumber (a .s .now) (a .at) ≡ Value (c .listed .given .0 .0) (c .listed .given .0 .1 .0)
-listed-read c = sym (c .before .before .read-number .ensures) ∙ c .listed .given .1
+listed-read c = sym (c .before .before .read-field .ensures) ∙ c .listed .given .1
 
-read-number-requires : tie.Need-read-number-requires
-read-number-requires c κs = search needs
+read-field-requires : tie.Need-read-field-requires
+read-field-requires c κs = search needs
 
 enum-known-e : tie.Need-enum-known-e
 enum-known-e c = search needs
@@ -59,7 +59,7 @@ returns-4 c =
 
 returns-5 : tie.Need-returns-5
 unfolding readListed listedField
-returns-5 c = sym (on-refused _ _ (sym (c .before .before .before .read-number .ensures) ∙ c .before .e .given .1))
+returns-5 c = sym (on-refused _ _ (sym (c .before .before .before .read-field .ensures) ∙ c .before .e .given .1))
 
 returns-6 : tie.Need-returns-6
 unfolding readListed listedField
@@ -76,7 +76,7 @@ pub read-listed-spec : {M : Type 1} → statement M
 read-listed-spec =
     tie.close
     (tie.spec
-    read-number-requires
+    read-field-requires
     enum-known-e
     enum-known-listed
     add-if1

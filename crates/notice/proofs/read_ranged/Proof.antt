@@ -13,10 +13,10 @@ use Rattle.notice.proofs.read_ranged.Tie as tie
 n-read : (c : tie.After-n) →
     let a = c .before .before .before .before .args in
     readNumber (a .s .now) (a .at) ≡ Value (c .n .given .0 .0) (c .n .given .0 .1 .0)
-n-read c = sym (c .before .before .read-number .ensures) ∙ c .n .given .1
+n-read c = sym (c .before .before .read-field .ensures) ∙ c .n .given .1
 
-read-number-requires : tie.Need-read-number-requires
-read-number-requires c κs = search needs
+read-field-requires : tie.Need-read-field-requires
+read-field-requires c κs = search needs
 
 enum-known-e : tie.Need-enum-known-e
 enum-known-e c = search needs
@@ -37,7 +37,7 @@ returns-2 c =
 
 returns-3 : tie.Need-returns-3
 unfolding readRanged
-returns-3 c = sym (on-refused _ _ (sym (c .before .before .before .read-number .ensures) ∙ c .before .e .given .1))
+returns-3 c = sym (on-refused _ _ (sym (c .before .before .before .read-field .ensures) ∙ c .before .e .given .1))
 
 returns-4 : tie.Need-returns-4
 unfolding readRanged
@@ -49,4 +49,4 @@ returns-4 c =
 pub read-ranged-spec : {M : Type 1} → statement M
 read-ranged-spec =
     tie.close
-    (tie.spec read-number-requires enum-known-e enum-known-n returns returns-2 returns-3 returns-4)
+    (tie.spec read-field-requires enum-known-e enum-known-n returns returns-2 returns-3 returns-4)

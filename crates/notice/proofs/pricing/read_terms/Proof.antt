@@ -12,10 +12,10 @@ use Rattle.notice.proofs.pricing.read_terms.Tie as tie
 status-read : (c : tie.After-status) →
     let a = c .before .before .before .before .args in
     readNumber (a .s .now) (a .at) ≡ Value (c .status .given .0 .0) (c .status .given .0 .1 .0)
-status-read c = sym (c .before .before .read-number .ensures) ∙ c .status .given .1
+status-read c = sym (c .before .before .read-field .ensures) ∙ c .status .given .1
 
-read-number-requires : tie.Need-read-number-requires
-read-number-requires c κs = search needs
+read-field-requires : tie.Need-read-field-requires
+read-field-requires c κs = search needs
 
 enum-known-e : tie.Need-enum-known-e
 enum-known-e c = search needs
@@ -50,7 +50,7 @@ returns-3 c =
 
 returns-4 : tie.Need-returns-4
 unfolding readTerms
-returns-4 c = sym (on-refused _ _ (sym (c .before .before .before .read-number .ensures) ∙ c .before .e .given .1))
+returns-4 c = sym (on-refused _ _ (sym (c .before .before .before .read-field .ensures) ∙ c .before .e .given .1))
 
 returns-5 : tie.Need-returns-5
 unfolding readTerms
@@ -65,7 +65,7 @@ pub read-terms-spec : {M : Type 1} → statement M
 read-terms-spec =
     tie.close
     (tie.spec
-    read-number-requires
+    read-field-requires
     enum-known-e
     enum-known-status
     returns
