@@ -3,7 +3,7 @@ use mathlib.Core.Path.{_≡_, refl, ap, sym, _∙_}
 use mathlib.Core.Logic.{_≢_}
 use mathlib.Core.Bool.{Bool, true, false, cond}
 use mathlib.Core.List.{List}
-use Prim.Native.Nat.{ℕ, _+_, _-_, _^_, _≤_, _<_}
+use Prim.Native.Nat.{ℕ, _+_, _-_, _*_, _/_, _^_, _≤_, _<_}
 use native.Mathlib.Decide.{decLe}
 use native.Mathlib.Omega.{arith}
 use borrow.Author.Tests.{ltb-true, ltb-false, lt-ltb, le-ltb, le-leb, lt-leb}
@@ -20,6 +20,13 @@ pub room-left : (room at size : ℕ) → at ≤ room → leb size (room - at) �
 room-left room at size h = elim (decLe size (room - at)) [
   | yes l ↦ le-leb size (room - at) l ∙ sym (le-leb (at + size) room (omega arith))
   | no l ↦ lt-leb size (room - at) (omega arith) ∙ sym (lt-leb (at + size) room (omega arith))
+]
+
+-- The same of so many times nine bytes.
+pub room-for-all : (room at count : ℕ) → at ≤ room → leb count ((room - at) / 9) ≡ leb (at + 9 * count) room
+room-for-all room at count h = elim (decLe count ((room - at) / 9)) [
+  | yes l ↦ le-leb count ((room - at) / 9) l ∙ sym (le-leb (at + 9 * count) room (omega arith))
+  | no l ↦ lt-leb count ((room - at) / 9) (omega arith) ∙ sym (lt-leb (at + 9 * count) room (omega arith))
 ]
 
 -- a size of 0 tells that the number is too large, and any other that it is not

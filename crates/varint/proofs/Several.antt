@@ -1,10 +1,9 @@
 -- Several numbers one after the other: what numbers_size and write_numbers come to, and that they read back.
 -- Assumes nothing.
 use mathlib.Core.Path.{_≡_, refl, ap, sym, _∙_}
-use mathlib.Core.Logic.{_≢_}
 use mathlib.Core.Bool.{Bool, true, false, cond, _&&_, and-eq-true-iff}
 use mathlib.Core.List.{List, [], _∷_, _++_, append-assoc}
-use Prim.Native.Nat.{ℕ, suc, _+_, _^_, _≤_, _<_}
+use Prim.Native.Nat.{ℕ, suc, _+_, _*_, _^_, _≤_, _<_}
 use native.Mathlib.Omega.{arith}
 use native.Mathlib.Numerals.{add-one}
 use borrow.Author.Tests.{ltb-true, lt-ltb, le-ltb, le-leb, lt-leb}
@@ -59,10 +58,10 @@ bytes-cons n ns = refl
 pub length-bytes-cons : (n : ℕ) (ns : List ℕ) → length (encodeAll (n ∷ ns)) ≡ length (encode n) + length (encodeAll ns)
 length-bytes-cons n ns = ap length (bytes-cons n ns) ∙ length-append (encode n) (encodeAll ns)
 
--- Numbers have bytes.
-pub some-bytes : (ns : List ℕ) → 0 < length ns → 0 < length (encodeAll ns)
-some-bytes [] h = absurd (omega arith)
-some-bytes (n ∷ ns) h = omega (arith, length-bytes-cons n ns, size n)
+-- They take at most nine bytes each.
+pub nine-each : (ns : List ℕ) → length (encodeAll ns) ≤ 9 * length ns
+nine-each [] = omega (arith, ap length bytes-nil)
+nine-each (n ∷ ns) = omega (arith, length-bytes-cons n ns, size n, nine-each ns)
 
 -- One turn of a pass over the numbers: the i-th and those after it.
 module _ (ns : List ℕ) (i : ℕ) (h : i < length ns) where
@@ -71,6 +70,9 @@ module _ (ns : List ℕ) (i : ℕ) (h : i < length ns) where
 
   pub turn-all : getD ns i 0 < 2 ^ 63 → encodableAll (drop i ns) ≡ encodableAll (drop (i + 1) ns)
   turn-all l = ap encodableAll from-here ∙ all-cons _ _ l
+
+  pub turn-none : 2 ^ 63 ≤ getD ns i 0 → encodableAll (drop i ns) ≡ false
+  turn-none l = ap encodableAll from-here ∙ not-first _ _ l
 
   pub turn-bytes : encodeAll (drop i ns) ≡ encode (getD ns i 0) ++ encodeAll (drop (i + 1) ns)
   turn-bytes = ap encodeAll from-here ∙ bytes-cons _ _
@@ -85,7 +87,7 @@ module _ (ns : List ℕ) (i : ℕ) (h : i < length ns) where
   pub stops : (r : ℕ) → r ≡ sizeOf (getD ns i 0) → r ≡ 0 → encodableAll ns ≡ encodableAll (drop i ns) → 0 ≡ sizeOfAll ns
   unfolding sizeOfAll
   stops r e z f =
-      let p : encodableAll ns ≡ false = f ∙ ap encodableAll from-here ∙ not-first _ (drop (i + 1) ns) (no-size _ r e z) in
+      let p : encodableAll ns ≡ false = f ∙ turn-none (no-size _ r e z) in
       sym (rw p)
 
 -- The pass has come to the end.
@@ -117,31 +119,6 @@ none-all ns e = rw e
 pub all-sized : (ns : List ℕ) → encodableAll ns ≡ true → sizeOfAll ns ≡ length (encodeAll ns)
 unfolding sizeOfAll
 all-sized ns e = rw e
-
--- A size of 0 tells that one of some numbers is too large, and any other that none is.
-pub none-sized : (ns : List ℕ) (r : ℕ) → r ≡ sizeOfAll ns → r ≡ 0 → 0 < length ns → encodableAll ns ≡ false
-unfolding sizeOfAll
-none-sized ns r e z h = go (encodableAll ns) refl (sym e ∙ z)
-  where
-    go : (t : Bool) → encodableAll ns ≡ t → cond t (length (encodeAll ns)) 0 ≡ 0 → encodableAll ns ≡ false
-    go true q f = absurd (omega (arith, some-bytes ns h))
-    go false q f = q
-
-pub some-sized : (ns : List ℕ) (r : ℕ) → r ≡ sizeOfAll ns → r ≢ 0 → (encodableAll ns ≡ true) × (r ≡ length (encodeAll ns))
-unfolding sizeOfAll
-some-sized ns r e h = go (encodableAll ns) refl e
-  where
-    go : (t : Bool) → encodableAll ns ≡ t → r ≡ cond t (length (encodeAll ns)) 0
-        → (encodableAll ns ≡ true) × (r ≡ length (encodeAll ns))
-    go true q z = (q, z)
-    go false q z = absurd (h z)
-
--- no numbers have an encoding, of no bytes
-pub empty-sized : (ns : List ℕ) (r : ℕ) → r ≡ sizeOfAll ns → length ns ≡ 0
-    → (encodableAll ns ≡ true) × (r ≡ length (encodeAll ns))
-unfolding encodableAll encodeAll sizeOfAll
-empty-sized [] r e h = (refl, e)
-empty-sized (n ∷ ns) r e h = absurd (omega arith)
 
 -- Stores one after the other.
 pub sets-append : (l : List ℕ) (i : ℕ) (xs ys : List ℕ) → sets (sets l i xs) (i + length xs) ys ≡ sets l i (xs ++ ys)

@@ -1,13 +1,14 @@
 // Numbers in groups of seven bits (document 01, "Notice layout"): read at a position, sized, and written.
 // In the trade: unsigned LEB128 of at most nine groups, in its shortest form only.
 ghost use mathlib.Core.Path.{_≡_};
-ghost use Prim.Native.Nat.{_+_, _^_, _<_, _≤_};
+ghost use mathlib.Core.Bool.{true};
+ghost use Prim.Native.Nat.{_+_, _*_, _^_, _<_, _≤_};
 ghost use lib.Dec.{leb};
 ghost use lib.ListN.{length};
 ghost use lib.Seq.{sets};
-ghost use Rattle.varint.specs.Reading.{readNumber};
+ghost use Rattle.varint.specs.Reading.{mostGroups, readNumber};
 ghost use Rattle.varint.specs.Writing.{encode, sizeOf, answer, left};
-ghost use Rattle.varint.specs.Several.{sizeOfAll, answerAll, leavesAll};
+ghost use Rattle.varint.specs.Several.{encodeAll, encodableAll, sizeOfAll, answerAll, leavesAll};
 
 mod reader;
 
@@ -154,26 +155,58 @@ pub fn numbers_size(numbers: &[u64]) -> usize
     size
 }
 
-// Writes several numbers one after the other at a position of a lent slice. Where there is no room for all of them, or one is
-// too large, no byte changes.
-pub fn write_numbers(out: &mut [u8], at: usize, numbers: &[u64]) -> Written
-    ensures { λ r. ⌜ r ≡ answerAll (length (now (out .entry))) at (now (numbers .entry)) ⌝ }
-    ensures { λ r. ⌜ now (out .exit) ≡ leavesAll (now (out .entry)) at (now (numbers .entry)) ⌝ }
+// Writes several numbers one after the other where there is room for them, and gives the position after them.
+fn put_numbers(out: &mut [u8], at: usize, numbers: &[u64]) -> usize
+    requires { ⌜ (encodableAll (now numbers) ≡ true) × (at + length (encodeAll (now numbers)) ≤ length (now out)) ⌝ }
+    ensures { λ r. ⌜ r ≡ at + length (encodeAll (now (numbers .entry))) ⌝ }
+    ensures { λ _. ⌜ now (out .exit) ≡ sets (now (out .entry)) at (encodeAll (now (numbers .entry))) ⌝ }
 {
-    let total = numbers_size(numbers);
-    if total == 0 {
-        if 0 < numbers.len() {
-            return Written::TooLarge;
-        }
-    }
-    if !fits(out.len(), at, total) {
-        return Written::NoRoom;
-    }
     let mut end = at;
     let mut done: usize = 0;
     while done < numbers.len() {
         end = put_number(out, end, numbers[done]);
         done += 1;
     }
-    Written::UpTo(end)
+    end
+}
+
+// Whether each of several numbers has an encoding.
+fn are_encodable(numbers: &[u64]) -> bool
+    ensures { λ r. ⌜ r ≡ encodableAll (now (numbers .entry)) ⌝ }
+{
+    let mut i: usize = 0;
+    while i < numbers.len() {
+        if TOO_LARGE <= numbers[i] {
+            return false;
+        }
+        i += 1;
+    }
+    true
+}
+
+// Whether there is room from a position on for so many numbers, however large.
+fn is_ample(room: usize, at: usize, count: usize) -> bool
+    ensures { λ r. ⌜ r ≡ leb (at + mostGroups * count) room ⌝ }
+{
+    if room < at {
+        return false;
+    }
+    count <= (room - at) / (MOST_GROUPS as usize)
+}
+
+// Writes several numbers one after the other at a position of a lent slice. Where there is no room for all of them, or one is
+// too large, no byte changes.
+pub fn write_numbers(out: &mut [u8], at: usize, numbers: &[u64]) -> Written
+    ensures { λ r. ⌜ r ≡ answerAll (length (now (out .entry))) at (now (numbers .entry)) ⌝ }
+    ensures { λ r. ⌜ now (out .exit) ≡ leavesAll (now (out .entry)) at (now (numbers .entry)) ⌝ }
+{
+    if !are_encodable(numbers) {
+        return Written::TooLarge;
+    }
+    if !is_ample(out.len(), at, numbers.len()) {
+        if !fits(out.len(), at, numbers_size(numbers)) {
+            return Written::NoRoom;
+        }
+    }
+    Written::UpTo(put_numbers(out, at, numbers))
 }
