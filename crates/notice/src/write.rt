@@ -12,41 +12,8 @@ const SENT_DECIMALS: u64 = 8;
 
 // Numbers to be written one after the other: the first `count` of `numbers`.
 struct Fields {
-    numbers: [u64; 8],
+    numbers: [u64; 5],
     count: usize,
-}
-
-// A line's fields.
-fn line_fields(line: Line) -> Fields
-    ensures { λ r. ⌜ r .count ≤ length (r .numbers) ⌝ }
-    ensures { λ r. ⌜ take (r .count) (r .numbers) ≡ lineFields line ⌝ }
-{
-    let code = dial_code::key_code(line.key);
-    let listed = line.listed;
-    let offer = line.offer;
-    match offer {
-        Offer::Closed => Fields {
-            numbers: [code.count, code.value, 0, listed, 0, 0, 0, 0],
-            count: 4,
-        },
-        Offer::Blocked => Fields {
-            numbers: [code.count, code.value, 1, listed, 0, 0, 0, 0],
-            count: 4,
-        },
-        Offer::Open { rate, first, next } => Fields {
-            numbers: [
-                code.count,
-                code.value,
-                2,
-                SENT_DECIMALS,
-                rate.0 as u64,
-                first as u64,
-                next as u64,
-                listed,
-            ],
-            count: 8,
-        },
-    }
 }
 
 // How many digits a country code has, by its value.
@@ -70,12 +37,12 @@ fn header_fields(kind: u64, received: u64, country: u64, lines: u64) -> Fields
     if kind == crate::REPLACEMENT {
         let digits = country_count(country);
         return Fields {
-            numbers: [kind, received, digits, country, lines, 0, 0, 0],
+            numbers: [kind, received, digits, country, lines],
             count: 5,
         };
     }
     Fields {
-        numbers: [kind, received, lines, 0, 0, 0, 0, 0],
+        numbers: [kind, received, lines, 0, 0],
         count: 3,
     }
 }
@@ -129,7 +96,33 @@ pub fn write_line(out: &mut [u8], at: usize, line: Line) -> Written
     ensures { λ r. ⌜ r ≡ answerAll (length (now (out .entry))) at (lineFields line) ⌝ }
     ensures { λ r. ⌜ now (out .exit) ≡ leavesAll (now (out .entry)) at (lineFields line) ⌝ }
 {
-    write_fields(out, at, line_fields(line))
+    let code = dial_code::key_code(line.key);
+    let listed = line.listed;
+    let offer = line.offer;
+    match offer {
+        Offer::Closed => {
+            let fields = [code.count, code.value, 0, listed];
+            varint::write_numbers(out, at, &fields)
+        }
+        Offer::Blocked => {
+            let fields = [code.count, code.value, 1, listed];
+            varint::write_numbers(out, at, &fields)
+        }
+        Offer::Open { rate, first, next } => {
+            let price = rate.0 as u64;
+            let fields = [
+                code.count,
+                code.value,
+                2,
+                SENT_DECIMALS,
+                price,
+                first as u64,
+                next as u64,
+                listed,
+            ];
+            varint::write_numbers(out, at, &fields)
+        }
+    }
 }
 
 // How many bytes the fields before the lines take; 0 where one is too large to have an encoding.
