@@ -360,6 +360,12 @@ pub fn best_offer(words: &[u64], key: u64, day: u64) -> Answer
     let mut place: u64 = 1;
     let mut n: u64 = 15;
     while 0 < n {
+        if count == 0 {
+            return Answer {
+                key: 0,
+                offer: Offer::Closed,
+            };
+        }
         let k = quotient * place;
         if k <= bound {
             count = entries_up_to(words, count, k, day);
