@@ -11,11 +11,10 @@ use borrow.Author.Tests.{eq-eqb, ne-eqb, le-leb, lt-leb, lt-ltb, le-ltb}
 use lib.Dec.{eqb, leb, ltb}
 use lib.ListN.{length}
 use Rattle.dial_code.proofs.Tests.{below, equal, above, order, both, and-right-false}
-use Rattle.rate.specs.OfferWord.{offerOf}
 use Rattle.book.specs.Layout.{headerWords, entryWords, countOf, entry, entryAt, entriesFrom, entriesOf}
-use Rattle.book.specs.Search.{notAfter, halved, upTo, foundUpTo, headedCount, lastEntry, ownWord, statusFound, offerFound}
+use Rattle.book.specs.Search.{notAfter, halved, upTo, foundUpTo, headedCount, lastEntry, ownWord}
 use Rattle.book.specs.Soundness.{soundHeader, sound}
-use Rattle.book.specs.Status.{statusFrom, statusIn, heldOffer, offerIn}
+use Rattle.book.specs.Status.{statusFrom, statusIn}
 use Rattle.book.specs.declared.Entry.{Entry}
 use Rattle.book.proofs.Rules.{sound-test}
 use Rattle.book.proofs.Rows.{entryIn, of-book, row-at, length-rows}
@@ -199,17 +198,6 @@ module _ (e : Entry) (k : ℕ) where
       go true = h
       go false = refl
 
--- The status that is found, by the steps of the code.
-pub as-found :
-    (ws : List ℕ) (k d : ℕ) {count n : ℕ} {e : Entry} {w : ℕ}
-    → count ≡ headedCount ws
-    → n ≡ foundUpTo ws count k d
-    → e ≡ lastEntry ws n
-    → w ≡ ownWord e k
-    → statusFound ws k d ≡ w
-unfolding statusFound
-as-found ws k d c f l o = rw (o, l, f, c)
-
 -- What the test of an entry's place shows.
 module _ (e : Entry) (x d : ℕ) where
   pub stands-after : notAfter e x d ≡ false → Before (e .key) (e .day) x d
@@ -342,7 +330,7 @@ module _
           (λ j z. let f : j ≡ r - 1 = omega arith in rw (f, row-before) (less-key e x d not-later n))
           behind)
 
--- All entries of a sound book are searched, and the status that is found is the code's.
+-- All entries of a sound book are searched, and the last one found has the status, where it is the code's.
 pub sound-count : (ws : List ℕ) → sound ws ≡ true → headedCount ws ≡ countOf ws
 sound-count ws s =
     let a = both _ _ (sym (sound-test ws) ∙ s) in
@@ -371,11 +359,3 @@ module _ (ws : List ℕ) (k d : ℕ) (s : sound ws ≡ true) where
           let z = eqb-false n 0 p in
           let l = eqb-false _ k q in
           ap (λ (e : Entry). ownWord e k) (some-last ws n z) ∙ other-offer _ k l ∙ other-entry ws s k d n f (omega (arith, z)) refl l
-
-  pub status-found : statusFound ws k d ≡ statusIn (entriesOf ws) k d
-  unfolding statusFound
-  status-found = rw (sound-count ws s) (last-status _ (found-turns ws (countOf ws) k d))
-
-  pub offer-found : offerFound ws k d ≡ offerIn (entriesOf ws) k d
-  unfolding offerFound offerIn
-  offer-found = ap (λ (w : ℕ). heldOffer (offerOf w)) status-found

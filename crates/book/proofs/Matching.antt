@@ -21,14 +21,14 @@ use Rattle.dial_code.proofs.CodeLaws.{length-places, digits-places, no-first-di
 use Rattle.rate.specs.OfferWord.{offerOf}
 use Rattle.rate.specs.declared.Offer.{Offer}
 use Rattle.rate.specs.declared.Offer.the-variants.{Closed, Blocked, Open}
-use Rattle.book.specs.Layout.{countOf, entriesOf}
+use Rattle.book.specs.Layout.{countOf, entry, entriesOf}
 use Rattle.book.specs.Soundness.{sound}
 use Rattle.book.specs.Search.{upTo, headedCount, foundUpTo, lastEntry, ownWord, tried, bestFound}
 use Rattle.book.specs.Status.{heldOffer, offerIn, answer, isStanding, standing, longest, matched}
 use Rattle.book.specs.declared.Answer.{Answer}
 use Rattle.book.specs.declared.Entry.{Entry}
 use Rattle.book.proofs.Halving.{Turns, found-turns, found-widely, found-between, after-smaller, other-offer}
-use Rattle.book.proofs.Halving.{last-status, sound-count}
+use Rattle.book.proofs.Halving.{found-most, no-last, closed-offer, last-status, sound-count}
 use Rattle.book.proofs.SoundLists.{entries-sound}
 use Rattle.book.proofs.Statuses.{starts-closed, no-code}
 
@@ -204,6 +204,24 @@ module _ (ws : List ℕ) (w d : ℕ) where
       → tried ws w d n count bound ≡ standing o k (tried ws w d (n - 1) found (min (e .key) (k - 1)))
   searched zero count bound k h p l f g v q = absurd (omega arith)
   searched (suc n) count bound k h p l f g v q = rw (q, v, g, f, p, sub-one) (search n count bound (rw p at l))
+
+  -- With no entry left to search, none is found.
+  pub no-entry : (n count bound : ℕ) → count ≡ 0 → tried ws w d n count bound ≡ answer 0 Closed
+  unfolding offerOf
+  no-entry zero count bound e = no-place zero count bound refl
+  no-entry (suc n) count bound e =
+      let k = prefixKey w (suc n) in
+      let none : 0 ≡ foundUpTo ws count k d = omega (arith, found-most ws count k d refl) in
+      let closed = sym (closed-offer (entry 0 0 0) k refl) in
+      let here : k ≤ bound → tried ws w d (suc n) count bound ≡ answer 0 Closed =
+      λ l.
+      searched (suc n) count bound k (omega arith) refl l none (sym (no-last ws 0 refl)) closed refl
+      ∙ rw sub-one (no-entry n 0 _ refl) in
+      elim (order bound k) [
+        | below b ↦ passed-by (suc n) count bound k (omega arith) refl b ∙ rw sub-one (no-entry n count bound e)
+        | equal b ↦ here (omega arith)
+        | above b ↦ here (omega arith)
+      ]
 
 -- What the searches in a sound book have left: the entry behind the entries left is after every truncation to n places or fewer,
 -- and these are closed where they lie above the bound.

@@ -10,7 +10,6 @@ use Rattle.dial_code.specs.Digits.{mostDigits}
 use Rattle.dial_code.specs.Key.{key, prefixKey}
 use Rattle.rate.specs.Price.{rate}
 use Rattle.rate.specs.OfferWord.{offerOf}
-use Rattle.rate.specs.declared.Offer.{Offer}
 use Rattle.rate.specs.declared.Offer.the-variants.{Closed, Blocked, Open}
 use Rattle.book.specs.Layout.{headerWords, entryWords, countOf, entry, entryAt, bookOf}
 use Rattle.book.specs.Soundness.{soundHeader}
@@ -57,16 +56,6 @@ lastEntry ws n = cond (eqb n 0) (entry 0 0 0) (entryAt ws (headerWords + (n - 1)
 -- The offer word of an entry where it is the code's, and closed where it is another's.
 unfoldable pub ownWord : Entry → ℕ → ℕ
 ownWord e k = cond (eqb (e .key) k) (e .offer) 0
-
--- The offer word of a code on a day, as halving finds; closed where the words have no sound header.
-unfoldable pub statusFound : List ℕ → ℕ → ℕ → ℕ
-unfolding headedCount foundUpTo lastEntry ownWord
-statusFound ws k d = ownWord (lastEntry ws (foundUpTo ws (headedCount ws) k d)) k
-
--- The status that is found, as an offer.
-unfoldable pub offerFound : List ℕ → ℕ → ℕ → Offer
-unfolding statusFound
-offerFound ws k d = heldOffer (offerOf (statusFound ws k d))
 
 -- The longest truncation of a word, to its first n places or fewer, that is found open or blocked on a day; else closed with
 -- key 0. So many entries are left to search, and truncations above a bound are passed over: a search leaves the entries it
@@ -118,37 +107,56 @@ three = bookOf 14 7 100 110 (entry k2 105 1 ∷ entry k1 100 259 ∷ entry k1 11
 turned : List ℕ
 turned = bookOf 14 7 100 110 (entry k1 110 0 ∷ entry k1 100 259 ∷ entry k2 105 1 ∷ [])
 
--- no word, no entry, three words; P1's entry under a count of 2, and under a period of 366
-none-found :
-    statusFound [] k1 100
-    ∷ statusFound (0 ∷ 7 ∷ 0 ∷ 0 ∷ []) k1 100
-    ∷ statusFound (1 ∷ 7 ∷ 100 ∷ []) 0 0
-    ∷ statusFound (2 ∷ 7 ∷ 100 ∷ 100 ∷ k1 ∷ 100 ∷ 589824000259 ∷ []) k1 100
-    ∷ statusFound (1 ∷ 366 ∷ 100 ∷ 100 ∷ k1 ∷ 100 ∷ 589824000259 ∷ []) k1 100
+-- no word, no entry, three words; P1's entry under a count of 2, and under a period of 366; P1's book
+counts :
+    headedCount []
+    ∷ headedCount (0 ∷ 7 ∷ 0 ∷ 0 ∷ [])
+    ∷ headedCount (1 ∷ 7 ∷ 100 ∷ [])
+    ∷ headedCount (2 ∷ 7 ∷ 100 ∷ 100 ∷ k1 ∷ 100 ∷ 589824000259 ∷ [])
+    ∷ headedCount (1 ∷ 366 ∷ 100 ∷ 100 ∷ k1 ∷ 100 ∷ 589824000259 ∷ [])
+    ∷ headedCount one
     ∷ []
-    ≡ 0 ∷ 0 ∷ 0 ∷ 0 ∷ 0 ∷ []
-unfolding statusFound k1 key
-none-found = refl
+    ≡ 0 ∷ 0 ∷ 0 ∷ 0 ∷ 0 ∷ 1 ∷ []
+unfolding headedCount one k1 key
+counts = refl
 
--- the day before, the day itself, keys before and behind
+-- the day before, the day itself, keys before and behind; none to search
 one-found :
-    statusFound one k1 99 ∷ statusFound one k1 100 ∷ statusFound one k2 100 ∷ statusFound one (k1 + 1) 100 ∷ []
-    ≡ 0 ∷ 589824000259 ∷ 0 ∷ 0 ∷ []
-unfolding statusFound one k1 k2 key
+    foundUpTo one 1 k1 99
+    ∷ foundUpTo one 1 k1 100
+    ∷ foundUpTo one 1 k2 100
+    ∷ foundUpTo one 1 (k1 + 1) 100
+    ∷ foundUpTo one 0 k1 100
+    ∷ []
+    ≡ 0 ∷ 1 ∷ 0 ∷ 1 ∷ 0 ∷ []
+unfolding foundUpTo one k1 k2 key
 one-found = refl
 
 -- the entries in order, and two of them that a wrong order hides
 three-found :
-    statusFound three k2 105
-    ∷ statusFound three k1 99
-    ∷ statusFound three k1 109
-    ∷ statusFound three k1 110
-    ∷ statusFound turned k1 109
-    ∷ statusFound turned k2 105
+    foundUpTo three 3 k2 105
+    ∷ foundUpTo three 3 k1 99
+    ∷ foundUpTo three 3 k1 109
+    ∷ foundUpTo three 3 k1 110
+    ∷ foundUpTo turned 3 k1 109
+    ∷ foundUpTo turned 3 k2 105
+    ∷ []
+    ≡ 1 ∷ 1 ∷ 2 ∷ 3 ∷ 3 ∷ 0 ∷ []
+unfolding foundUpTo three turned bookOf k1 k2 key
+three-found = refl
+
+-- the words of what is found there
+own-words :
+    ownWord (lastEntry three 1) k2
+    ∷ ownWord (lastEntry three 1) k1
+    ∷ ownWord (lastEntry three 2) k1
+    ∷ ownWord (lastEntry three 3) k1
+    ∷ ownWord (lastEntry turned 3) k1
+    ∷ ownWord (lastEntry turned 0) k2
     ∷ []
     ≡ 1 ∷ 0 ∷ 259 ∷ 0 ∷ 0 ∷ 0 ∷ []
-unfolding statusFound three turned bookOf k1 k2 key
-three-found = refl
+unfolding ownWord lastEntry three turned bookOf k1 k2 key
+own-words = refl
 
 -- 2 open from day 100 on, 2348 blocked from day 105 on, 23480 open from day 100 to 104
 layered : List ℕ

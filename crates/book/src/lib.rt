@@ -7,7 +7,7 @@ ghost use Rattle.book.specs.Layout.{headerWords, entryWords, entryAt, en
 ghost use Rattle.book.specs.Soundness.{isOfferWord, inRange, begins, follows, soundEntries, allZero, soundHeader, sound};
 ghost use Rattle.rate.specs.OfferWord.{offerOf};
 ghost use Rattle.book.specs.Status.{heldOffer, isStanding};
-ghost use Rattle.book.specs.Search.{notAfter, headedCount, foundUpTo, lastEntry, ownWord, statusFound, offerFound, bestFound};
+ghost use Rattle.book.specs.Search.{notAfter, headedCount, foundUpTo, lastEntry, ownWord, bestFound};
 ghost use Rattle.book.specs.Answers.{freshRefusal, freshWords, bookRefusal, lookup};
 use dial_code::Keyed;
 use rate::Day;
@@ -306,21 +306,6 @@ fn offer_held(word: u64) -> Offer
     }
 }
 
-// The offer word of a code on a day, found by halving.
-pub fn status_on(words: &[u64], key: u64, day: u64) -> u64
-    ensures { λ r. ⌜ r ≡ statusFound (now (words .entry)) key day ⌝ }
-{
-    let found = entries_up_to(words, headed_count(words), key, day);
-    own_word(last_entry(words, found), key)
-}
-
-// The status of a code on a day, as an offer.
-pub fn offer_on(words: &[u64], key: u64, day: u64) -> Offer
-    ensures { λ r. ⌜ r ≡ offerFound (now (words .entry)) key day ⌝ }
-{
-    offer_held(status_on(words, key, day))
-}
-
 fn is_standing(offer: Offer) -> bool
     ensures { λ r. ⌜ r ≡ isStanding offer ⌝ }
 {
@@ -360,6 +345,12 @@ pub fn best_offer(words: &[u64], key: u64, day: u64) -> Answer
     let mut place: u64 = 1;
     let mut n: u64 = 15;
     while 0 < n {
+        if count == 0 {
+            return Answer {
+                key: 0,
+                offer: Offer::Closed,
+            };
+        }
         let k = quotient * place;
         if k <= bound {
             count = entries_up_to(words, count, k, day);

@@ -1,4 +1,4 @@
--- The laws of sound books stated again in full: what the searches find is what the rules say, a lookup depends on the statuses
+-- The laws of sound books stated again in full: what the search finds is the longest match, a lookup depends on the statuses
 -- alone, and statuses and header determine a book's words. Assumes nothing.
 use mathlib.Core.Path.{_≡_}
 use mathlib.Core.Bool.{true}
@@ -10,17 +10,9 @@ use Rattle.rate.specs.declared.Offer.{Offer}
 use Rattle.book.specs.Layout.{periodOf, receivedOf, latestOf, entriesOf}
 use Rattle.book.specs.Soundness.{sound}
 use Rattle.book.specs.Status.{statusIn, offerIn, matched}
-use Rattle.book.specs.Search.{statusFound, offerFound, bestFound}
-use Rattle.book.proofs.Halving as halving
+use Rattle.book.specs.Search.{bestFound}
 use Rattle.book.proofs.Matching as matching
 use Rattle.book.proofs.Unique as unique
-
-pub status-found :
-    (ws : List ℕ) (k d : ℕ) → sound ws ≡ true → statusFound ws k d ≡ statusIn (entriesOf ws) k d
-status-found ws k d s = halving.status-found ws k d s
-
-pub offer-found : (ws : List ℕ) (k d : ℕ) → sound ws ≡ true → offerFound ws k d ≡ offerIn (entriesOf ws) k d
-offer-found ws k d s = halving.offer-found ws k d s
 
 pub best-found :
     (ws : List ℕ) (w day : ℕ)

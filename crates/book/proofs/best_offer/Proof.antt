@@ -12,7 +12,7 @@ use Rattle.book.specs.Search.{tried, bestFound}
 use Rattle.book.specs.Status.{standing}
 use Rattle.book.proofs.Halving.{count-room, found-room}
 use Rattle.book.proofs.Matching.{stands, passes, place-key, next-quotient, prefix-most}
-use Rattle.book.proofs.Matching.{starts, no-place, passed-by, searched}
+use Rattle.book.proofs.Matching.{starts, no-place, no-entry, passed-by, searched}
 use Rattle.book.proofs.best_offer.Statement.{statement}
 use Rattle.book.proofs.best_offer.Tie as tie
 
@@ -31,8 +31,8 @@ abbrev μ-loop : tie.MeasureT-loop
 at-offer :
     (c : tie.After-offer-held Inv-loop μ-loop)
     → let f = c .before .before .before in
-    let l = f .before .before .before .loop in
-    let a = f .before .before .before .before .before .before .args in
+    let l = f .before .before .before .before .loop in
+    let a = f .before .before .before .before .before .before .before .args in
     let k = l .quotient * l .place in
     bestFound (a .words .now) (a .key) (a .day)
     ≡ standing (c .offer-held .result) k
@@ -40,12 +40,12 @@ at-offer :
     (min (c .before .before .last-entry .result .key) (k - 1)))
 at-offer c =
     let f = c .before .before .before in
-    let l = f .before .before .before .loop in
+    let l = f .before .before .before .before .loop in
     l .inv .4
     ∙ searched _ _ _ (l .n) (l .count) (l .bound) _
-    (f .before .before .loop-test .taken)
+    (f .before .before .before .loop-test .taken)
     (place-key _ _ _ _ (l .inv .1) (l .inv .2))
-    (f .before .if1 .taken)
+    (f .before .if2 .taken)
     (f .entries-up-to .ensures)
     (c .before .before .last-entry .ensures)
     (c .before .own-word .ensures)
@@ -59,17 +59,20 @@ loop-holds c =
     let e = c .headed-count .ensures in
     (omega arith, refl, omega arith, rw e (count-room _), starts _ _ _ e)
 
+returns : tie.Need-returns Inv-loop μ-loop
+returns c = sym (c .before .before .loop .inv .4 ∙ no-entry _ _ _ _ _ _ (c .if1 .taken))
+
 mul-k : tie.Need-mul-k Inv-loop μ-loop
 mul-k c =
-    let l = c .before .loop in
-    let a = c .before .before .before .before .args in
+    let l = c .before .before .loop in
+    let a = c .before .before .before .before .before .args in
     omega (arith, place-key _ _ _ _ (l .inv .1) (l .inv .2), prefix-most (a .key) (l .n))
 
 entries-up-to-requires : tie.Need-entries-up-to-requires Inv-loop μ-loop
-entries-up-to-requires c κs = c .before .before .loop .inv .3
+entries-up-to-requires c κs = c .before .before .before .loop .inv .3
 
 last-entry-requires : tie.Need-last-entry-requires Inv-loop μ-loop
-last-entry-requires c κs = found-room _ _ _ _ (c .before .before .before .loop .inv .3) (c .entries-up-to .ensures)
+last-entry-requires c κs = found-room _ _ _ _ (c .before .before .before .before .loop .inv .3) (c .entries-up-to .ensures)
 
 own-word-requires : tie.Need-own-word-requires Inv-loop μ-loop
 own-word-requires c κs = search needs
@@ -80,15 +83,15 @@ offer-held-requires c κs = search needs
 is-standing-requires : tie.Need-is-standing-requires Inv-loop μ-loop
 is-standing-requires c κs = search needs
 
-returns : tie.Need-returns Inv-loop μ-loop
-returns c =
-    sym (at-offer (c .before .before) ∙ stands _ _ _ (sym (c .before .is-standing .ensures) ∙ c .if2 .taken))
+returns-2 : tie.Need-returns-2 Inv-loop μ-loop
+returns-2 c =
+    sym (at-offer (c .before .before) ∙ stands _ _ _ (sym (c .before .is-standing .ensures) ∙ c .if3 .taken))
 
 lesser-below-requires : tie.Need-lesser-below-requires Inv-loop μ-loop
 lesser-below-requires c κs = search needs
 
 mul-place : tie.Need-mul-place Inv-loop μ-loop
-mul-place c = omega (arith, weight-most _ _ (c .before .loop-test .taken) (c .before .before .loop .inv .1))
+mul-place c = omega (arith, weight-most _ _ (c .before .before .loop-test .taken) (c .before .before .before .loop .inv .1))
 
 sub-n : tie.Need-sub-n Inv-loop μ-loop
 sub-n c = search needs
@@ -98,29 +101,29 @@ loop-less c = search needs
 
 loop-again : tie.Need-loop-again Inv-loop μ-loop
 loop-again c =
-    let l = c .before .before .loop in
-    let h = c .before .loop-test .taken in
+    let l = c .before .before .before .loop in
+    let h = c .before .before .loop-test .taken in
     let q = place-key _ _ _ _ (l .inv .1) (l .inv .2) in (
       omega arith,
       next-weight _ _ h (l .inv .0) (l .inv .1),
       next-quotient _ _ _ (l .inv .2),
-      ⊎-elim (λ v. rw (v .8) (found-room _ _ _ _ (l .inv .3) (v .1 .ensures))) (λ v. rw (v .1) (l .inv .3)) (c .if1 .came),
+      ⊎-elim (λ v. rw (v .8) (found-room _ _ _ _ (l .inv .3) (v .1 .ensures))) (λ v. rw (v .1) (l .inv .3)) (c .if2 .came),
       ⊎-elim
           (λ v.
           let f : tie.After-entries-up-to Inv-loop μ-loop =
-          record { before = record { before = c .before; if1 = v .0 }; entries-up-to = v .1 } in
+          record { before = record { before = c .before; if2 = v .0 }; entries-up-to = v .1 } in
           let o : tie.After-offer-held Inv-loop μ-loop =
           record { before = record { before = record { before = f; last-entry = v .2 }; own-word = v .3 }; offer-held = v .4 } in
-          let a = c .before .before .before .before .before .args in
+          let a = c .before .before .before .before .before .before .args in
           let k = l .quotient * l .place in
           let rest = tried (a .words .now) (a .key) (a .day) (l .n - 1) (v .1 .result) (min (v .2 .result .key) (k - 1)) in
           rw (v .8, v .9, v .7 .ensures) (at-offer o ∙ passes (v .4 .result) k rest (sym (v .5 .ensures) ∙ v .6 .left)))
           (λ v. rw (v .1, v .2) (l .inv .4 ∙ passed-by _ _ _ _ _ _ _ h q (v .0 .left)))
-          (c .if1 .came),
+          (c .if2 .came),
     )
 
-returns-2 : tie.Need-returns-2 Inv-loop μ-loop
-returns-2 c =
+returns-3 : tie.Need-returns-3 Inv-loop μ-loop
+returns-3 c =
     let l = c .before .loop in
     sym (l .inv .4 ∙ no-place _ _ _ (l .n) _ _ (omega arith))
 
@@ -132,16 +135,17 @@ best-offer-spec =
     μ-loop
     headed-count-requires
     loop-holds
+    returns
     mul-k
     entries-up-to-requires
     last-entry-requires
     own-word-requires
     offer-held-requires
     is-standing-requires
-    returns
+    returns-2
     lesser-below-requires
     mul-place
     sub-n
     loop-less
     loop-again
-    returns-2)
+    returns-3)
