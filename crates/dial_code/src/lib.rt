@@ -13,7 +13,7 @@ pub const KEYS_END: u64 = 4_177_248_169_415_651;
 // The weight of a key's first place, 11 to the power 14, and of its third, 11 to the power 12.
 const FIRST_PLACE: u64 = 379_749_833_583_241;
 
-const THIRD_PLACE: u64 = 3_138_428_376_721;
+pub const THIRD_PLACE: u64 = 3_138_428_376_721;
 // The weight of each place of a key, 11 to the power 15 - place, from place 0 on.
 const WEIGHTS: [u64; 16] = [
     4_177_248_169_415_651,
