@@ -1,16 +1,17 @@
 -- The country of a key from its first three places, and the two-digit country codes as bits. Assumes nothing.
 use mathlib.Core.Path.{_≡_, refl, ap, sym, _∙_}
-use mathlib.Core.Bool.{Bool, true, false, not}
+use mathlib.Core.Bool.{Bool, true, false, not, cond}
 use mathlib.Core.List.{List, [], _∷_}
 use Prim.Native.Nat.{ℕ, suc, _+_, _-_, _*_, _/_, _%_, _^_, _≤_, _<_}
 use native.Mathlib.Omega.{arith}
-use borrow.Author.Tests.{lt-ltb, le-ltb, le-leb, eq-eqb, ne-eqb}
+use borrow.Author.Tests.{lt-ltb, le-ltb, le-leb, eq-eqb, ne-eqb, eqb-true, eqb-false}
 use lib.Dec.{eqb}
 use lib.ListN.{length}
 use Rattle.dial_code.specs.Key.{keysEnd, firstPlace, placesOf, digitsOfKey}
 use Rattle.dial_code.specs.CountryCode.{oneDigit, twoDigits, country, countryOfKey}
+use Rattle.dial_code.specs.declared.Country.{Country}
 use Rattle.dial_code.specs.declared.Country.the-variants.{Code, None}
-use Rattle.dial_code.proofs.Tests.{below, allBelow, each-below}
+use Rattle.dial_code.proofs.Tests.{below, equal, above, order, positive, allBelow, each-below}
 
 same : Bool → Bool → Bool
 same true b = b
@@ -87,6 +88,16 @@ not-one-digit f p a b =
     let x : f - 1 ≡ 1 → ⊥ = λ e. a (omega arith) in
     let y : f - 1 ≡ 7 → ⊥ = λ e. b (omega arith) in
     rw (ne-eqb (f - 1) 1 x) (ne-eqb (f - 1) 7 y)
+
+-- The country of a key by its first three places.
+fromPlaces : ℕ → ℕ → ℕ → Country
+fromPlaces a b c =
+    cond (eqb a 0) None
+    (cond (eqb a 2) (Code 1)
+    (cond (eqb a 8) (Code 7)
+    (cond (eqb b 0) None
+    (cond (twoDigits ((a - 1) * 10 + (b - 1))) (Code ((a - 1) * 10 + (b - 1)))
+    (cond (eqb c 0) None (Code (((a - 1) * 10 + (b - 1)) * 10 + (c - 1))))))))
 
 -- Why the sums over three places do not wrap.
 pub two-fits : (w : ℕ) → w < keysEnd → ((first w - 1) * 10 + (second w - 1)) * 10 < 2 ^ 64
@@ -166,3 +177,40 @@ module _ (w : ℕ) (h : w < keysEnd) where
           let rest : placesOf 13 v ≡ (third w - 1) ∷ placesOf 12 (v % firstPlace * 11) =
           rw (third-place w) (places-some 12 v (rw (third-place w) at l)) in
           of-digits w (two-places ∙ ap (λ (s : List ℕ). (first w - 1) ∷ (second w - 1) ∷ s) rest) ∙ country-three _ one _ _ _ t
+
+  -- none of its other places matters
+  by-places :
+      (a b c d e f : Bool) → eqb (first w) 0 ≡ a → eqb (first w) 2 ≡ b → eqb (first w) 8 ≡ c → eqb (second w) 0 ≡ d
+      → twoDigits ((first w - 1) * 10 + (second w - 1)) ≡ e → eqb (third w) 0 ≡ f
+      → countryOfKey w ≡ fromPlaces (first w) (second w) (third w)
+  unfolding fromPlaces
+  by-places true b c d e f p q r s t u = no-first (eqb-true _ _ p) ∙ sym (rw p)
+  by-places false true c d e f p q r s t u = by-one 1 refl (eqb-true _ _ q) ∙ sym (rw (p, q))
+  by-places false false true d e f p q r s t u = by-one 7 refl (eqb-true _ _ r) ∙ sym (rw (p, q, r))
+  by-places false false false true e f p q r s t u =
+      no-second (positive (eqb-false _ _ p)) (eqb-false _ _ q) (eqb-false _ _ r) (eqb-true _ _ s) ∙ sym (rw (p, q, r, s))
+  by-places false false false false true f p q r s t u =
+      by-two (positive (eqb-false _ _ p)) (eqb-false _ _ q) (eqb-false _ _ r) (positive (eqb-false _ _ s)) t
+      ∙ sym (rw (p, q, r, s, t))
+  by-places false false false false false true p q r s t u =
+      no-third (positive (eqb-false _ _ p)) (eqb-false _ _ q) (eqb-false _ _ r) (positive (eqb-false _ _ s)) t (eqb-true _ _ u)
+      ∙ sym (rw (p, q, r, s, t, u))
+  by-places false false false false false false p q r s t u =
+      by-three (positive (eqb-false _ _ p)) (eqb-false _ _ q) (eqb-false _ _ r) (positive (eqb-false _ _ s)) t
+      (positive (eqb-false _ _ u))
+      ∙ sym (rw (p, q, r, s, t, u))
+
+  from-places : countryOfKey w ≡ fromPlaces (first w) (second w) (third w)
+  from-places = by-places _ _ _ _ _ _ refl refl refl refl refl refl
+
+-- Keys with the same first three places have the same country.
+pub same-country : (w v : ℕ) → w / 3138428376721 ≡ v / 3138428376721 → countryOfKey w ≡ countryOfKey v
+same-country w v e =
+    elim (order w keysEnd) [
+      | below h ↦
+          from-places w h
+          ∙ ap (λ (p : ℕ). fromPlaces (p / 121) (p / 11 % 11) (p % 11)) e
+          ∙ sym (from-places v (omega (arith, e)))
+      | equal h ↦ no-key w (omega (arith, h)) ∙ sym (no-key v (omega (arith, h, e)))
+      | above h ↦ no-key w (omega (arith, h)) ∙ sym (no-key v (omega (arith, h, e)))
+    ]

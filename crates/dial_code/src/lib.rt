@@ -13,7 +13,7 @@ pub const KEYS_END: u64 = 4_177_248_169_415_651;
 // The weight of a key's first place, 11 to the power 14, and of its third, 11 to the power 12.
 const FIRST_PLACE: u64 = 379_749_833_583_241;
 
-const THIRD_PLACE: u64 = 3_138_428_376_721;
+pub const THIRD_PLACE: u64 = 3_138_428_376_721;
 // The country codes of two digits: a bit for each value from 0 to 63, and from 64 on.
 const TWO_DIGITS_LOW: u64 = 0xf7fb_fb97_c810_0000;
 

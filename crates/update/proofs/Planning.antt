@@ -3,7 +3,7 @@
 use mathlib.Core.Path.{_≡_, refl, ap, sym, _∙_}
 use mathlib.Core.Bool.{true, false}
 use mathlib.Core.List.{List, [], _∷_}
-use Prim.Native.Nat.{ℕ, _+_, _≤_, _<_, max}
+use Prim.Native.Nat.{ℕ, _+_, _/_, _≤_, _<_, max}
 use borrow.Author.Tests.{lt-ltb, le-ltb, eq-eqb, ne-eqb}
 use lib.Dec.{eqb, ltb}
 use lib.ListN.{length, getD, set, length-set}
@@ -12,6 +12,7 @@ use Rattle.dial_code.specs.Key.{digitsOfKey}
 use Rattle.dial_code.specs.CountryCode.{countryOfKey}
 use Rattle.dial_code.specs.declared.Country.{Country}
 use Rattle.dial_code.specs.declared.Country.the-variants.{Code, None}
+use Rattle.dial_code.proofs.CountryLaws.{same-country}
 use Rattle.rate.specs.OfferWord.{wordOf}
 use Rattle.rate.specs.declared.Rate.{Rate}
 use Rattle.rate.specs.declared.Offer.{Offer}
@@ -120,6 +121,12 @@ module _ (p : Plan) (marks : List ℕ) (k : ℕ) where
     pub closes-none : (p .kind ≡ 2 → ⊥) → (p .kind ≡ 4 → ⊥) → false ≡ closesBy p marks k
     unfolding closesBy
     closes-none g h = rw (ne-eqb (p .kind) 1 f) (closes-no-country g h (countryOfKey k))
+
+-- Codes with the same first three places are closed alike.
+pub closes-alike : (p : Plan) (marks : List ℕ) (k j : ℕ) → k / 3138428376721 ≡ j / 3138428376721
+    → closesBy p marks k ≡ closesBy p marks j
+unfolding closesBy
+closes-alike p marks k j e = rw (same-country k j e)
 
 -- The marks of a country, of one past the table, and of lines one at a time.
 pub marks-one : {x : Country} (marks : List ℕ) {n : ℕ} → x ≡ Code n → set marks n 1 ≡ marked x marks

@@ -236,7 +236,8 @@ fn put_unlisted(
     count + 2
 }
 
-// Passes the entries of keys below one, none of which the notice lists.
+// Passes the entries of keys below one, none of which the notice lists. Codes with the same first three places have the same
+// country, so whether they are closed is worked once for all that follow one another.
 fn pass_unlisted(
     old: &[u64],
     from: Place,
@@ -260,14 +261,21 @@ fn pass_unlisted(
     let mut left = from.left;
     let mut count = from.count;
     let day = plan.closing;
+    // No key below has these places.
+    let mut places = below;
+    let mut closed = false;
     while 0 < left {
         let e = entry_at(old, at);
         if below <= e.key {
             return Place { at, left, count };
         }
+        let own = e.key / dial_code::THIRD_PLACE;
+        if own != places {
+            places = own;
+            closed = countries::closes(plan, marks, e.key);
+        }
         at += book::ENTRY_WORDS;
         left -= 1;
-        let closed = countries::closes(plan, marks, e.key);
         count = put_unlisted(old, at, left, e, closed, day, new, count, write);
     }
     Place { at, left, count }
