@@ -3,7 +3,7 @@
 use mathlib.Core.Path.{_≡_, refl, ap, sym, _∙_}
 use mathlib.Core.Bool.{Bool, true, false, false≢true}
 use mathlib.Core.List.{List, [], _∷_}
-use Prim.Native.Nat.{ℕ, zero, suc, _+_, _-_, _*_, _/_, _%_, _^_, _≤_, _<_, min}
+use Prim.Native.Nat.{ℕ, zero, suc, _-_, _*_, _/_, _^_, _≤_, _<_, min}
 use native.Mathlib.Nat.{mod-add-div', div-div-eq-div-mul, mul-le-mul-right, mul-assoc, mul-comm}
 use native.Mathlib.Numerals.{sub-one}
 use native.Mathlib.Omega.{arith}
@@ -162,7 +162,7 @@ prefix-rises w n =
 
 -- The start, and one truncation of a word: none is left, it lies above the bound, or it is searched for.
 module _ (ws : List ℕ) (w d : ℕ) where
-  starts : {n : ℕ} → n ≡ headedCount ws → bestFound ws w d ≡ tried ws w d 15 n w
+  pub starts : {n : ℕ} → n ≡ headedCount ws → bestFound ws w d ≡ tried ws w d 15 n w
   unfolding bestFound
   starts e = rw e
 
@@ -204,63 +204,6 @@ module _ (ws : List ℕ) (w d : ℕ) where
       → tried ws w d n count bound ≡ standing o k (tried ws w d (n - 1) found (min (e .key) (k - 1)))
   searched zero count bound k h p l f g v q = absurd (omega arith)
   searched (suc n) count bound k h p l f g v q = rw (q, v, g, f, p, sub-one) (search n count bound (rw p at l))
-
-  -- Places at the end that hold no digit are passed over after the first try, which is the same with and without them.
-  held : (n : ℕ) → w % 11 ^ (15 - n) ≡ 0 → w ≡ prefixKey w n
-  unfolding prefixKey
-  held n h = rw h (omega arith)
-
-  kept : (i n : ℕ) → w % 11 ^ (15 - n) ≡ 0 → w ≡ prefixKey w (i + n)
-  kept zero n h = held n h ∙ ap (prefixKey w) (omega arith)
-  kept (suc i) n h =
-      let e : w ≡ prefixKey w (suc (i + n)) =
-      omega (arith, kept i n h, prefix-rises w (i + n), prefix-most w (suc (i + n))) in
-      e ∙ ap (prefixKey w) (omega arith)
-
-  all-passed :
-      (i n count bound : ℕ)
-      → 0 < n
-      → w % 11 ^ (15 - n) ≡ 0
-      → bound < w
-      → tried ws w d (i + n) count bound ≡ tried ws w d (n - 1) count bound
-  all-passed zero n count bound h z l =
-      ap (λ (m : ℕ). tried ws w d m count bound) (omega arith) ∙ passed-by n count bound w h (held n z) l
-  all-passed (suc i) n count bound h z l =
-      passed-by (suc i + n) count bound w (omega arith) (kept (suc i) n z) l
-      ∙ ap (λ (m : ℕ). tried ws w d m count bound) (omega arith)
-      ∙ all-passed i n count bound h z l
-
-  trims : (i n count : ℕ) → 0 < n → 0 < w → w % 11 ^ (15 - n) ≡ 0 → tried ws w d (suc i + n) count w ≡ tried ws w d n count w
-  trims i n count h p z =
-      let found = foundUpTo ws count w d in
-      let e = lastEntry ws found in
-      let bound = min (e .key) (w - 1) in
-      searched (suc i + n) count w w (omega arith) (kept (suc i) n z) (omega arith) refl refl refl refl
-      ∙ ap (λ (a : Answer). standing (heldOffer (offerOf (ownWord e w))) w a)
-      (ap (λ (m : ℕ). tried ws w d m found bound) (omega arith) ∙ all-passed i n found bound h z (omega arith))
-      ∙ sym (searched n count w w h (held n z) (omega arith) refl refl refl refl)
-
-  pub trimmed-starts :
-      (n : ℕ) {m : ℕ}
-      → m ≡ headedCount ws
-      → 1 ≤ n
-      → n ≤ 15
-      → w % 11 ^ (15 - n) ≡ 0
-      → (w ≡ 0 → n ≡ 15)
-      → bestFound ws w d ≡ tried ws w d n m w
-  trimmed-starts n {m} e h l z f =
-      elim (order n 15) [
-        | below b ↦ starts e ∙ ap (λ (i : ℕ). tried ws w d i m w) (omega arith) ∙ trims (14 - n) n m h (positive b) z
-        | equal b ↦ starts e ∙ ap (λ (i : ℕ). tried ws w d i m w) (sym b)
-        | above b ↦ absurd (omega arith)
-      ]
-    where
-      positive : n < 15 → 0 < w
-      positive b = elim (order 0 w) [
-        | below q ↦ q
-        | equal q ↦ let g = f (sym q) in absurd (omega arith)
-        | above q ↦ absurd (omega arith)
-      ]
 
   -- With no entry left to search, none is found.
   pub no-entry : (n count bound : ℕ) → count ≡ 0 → tried ws w d n count bound ≡ answer 0 Closed

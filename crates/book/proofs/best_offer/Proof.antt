@@ -1,6 +1,6 @@
 -- best_offer meets its contract. The loop's invariant: what is left to try, of `n` places or fewer, gives the answer; `place` is
 -- the weight of the n-th place, and `quotient` the key's by it. The measure is `n`. Assumes nothing.
-use mathlib.Core.Path.{_≡_, sym, _∙_}
+use mathlib.Core.Path.{_≡_, refl, sym, _∙_}
 use mathlib.Core.Logic.{⊎-elim}
 use Prim.Native.Nat.{_-_, _*_, _/_, _^_, _≤_, min}
 use native.Mathlib.Omega.{arith}
@@ -12,9 +12,9 @@ use Rattle.book.specs.Search.{tried, bestFound}
 use Rattle.book.specs.Status.{standing}
 use Rattle.book.proofs.Halving.{count-room, found-room}
 use Rattle.book.proofs.Matching.{stands, passes, place-key, next-quotient, prefix-most}
-use Rattle.book.proofs.Matching.{trimmed-starts, no-place, no-entry, passed-by, searched}
-use Rattle.book.proofs.search.best_offer.Statement.{statement}
-use Rattle.book.proofs.search.best_offer.Tie as tie
+use Rattle.book.proofs.Matching.{starts, no-place, no-entry, passed-by, searched}
+use Rattle.book.proofs.best_offer.Statement.{statement}
+use Rattle.book.proofs.best_offer.Tie as tie
 
 abbrev Inv-loop : tie.InvT-loop
 Inv-loop words key day count₀ bound₀ quotient₀ place₀ n₀ count bound quotient place n =
@@ -32,7 +32,7 @@ at-offer :
     (c : tie.After-offer-held Inv-loop μ-loop)
     → let f = c .before .before .before in
     let l = f .before .before .before .before .loop in
-    let a = f .before .before .before .before .before .before .before .before .args in
+    let a = f .before .before .before .before .before .before .before .args in
     let k = l .quotient * l .place in
     bestFound (a .words .now) (a .key) (a .day)
     ≡ standing (c .offer-held .result) k
@@ -54,19 +54,10 @@ at-offer c =
 headed-count-requires : tie.Need-headed-count-requires Inv-loop μ-loop
 headed-count-requires c κs = search needs
 
-first-places-requires : tie.Need-first-places-requires Inv-loop μ-loop
-first-places-requires c κs = search needs
-
 loop-holds : tie.Need-loop-holds Inv-loop μ-loop
 loop-holds c =
-    let e = c .before .headed-count .ensures in
-    let p = c .first-places .ensures in (
-      p .0 .1,
-      p .0 .2,
-      p .0 .3,
-      rw e (count-room _),
-      trimmed-starts _ _ _ _ e (p .0 .0) (p .0 .1) (rw (p .0 .2) at (p .1 .0)) (p .1 .1),
-    )
+    let e = c .headed-count .ensures in
+    (omega arith, refl, omega arith, rw e (count-room _), starts _ _ _ e)
 
 returns : tie.Need-returns Inv-loop μ-loop
 returns c = sym (c .before .before .loop .inv .4 ∙ no-entry _ _ _ _ _ _ (c .if1 .taken))
@@ -74,7 +65,7 @@ returns c = sym (c .before .before .loop .inv .4 ∙ no-entry _ _ _ _ _ _ (c .if
 mul-k : tie.Need-mul-k Inv-loop μ-loop
 mul-k c =
     let l = c .before .before .loop in
-    let a = c .before .before .before .before .before .before .args in
+    let a = c .before .before .before .before .before .args in
     omega (arith, place-key _ _ _ _ (l .inv .1) (l .inv .2), prefix-most (a .key) (l .n))
 
 entries-up-to-requires : tie.Need-entries-up-to-requires Inv-loop μ-loop
@@ -123,7 +114,7 @@ loop-again c =
           record { before = record { before = c .before; if2 = v .0 }; entries-up-to = v .1 } in
           let o : tie.After-offer-held Inv-loop μ-loop =
           record { before = record { before = record { before = f; last-entry = v .2 }; own-word = v .3 }; offer-held = v .4 } in
-          let a = c .before .before .before .before .before .before .before .args in
+          let a = c .before .before .before .before .before .before .args in
           let k = l .quotient * l .place in
           let rest = tried (a .words .now) (a .key) (a .day) (l .n - 1) (v .1 .result) (min (v .2 .result .key) (k - 1)) in
           rw (v .8, v .9, v .7 .ensures) (at-offer o ∙ passes (v .4 .result) k rest (sym (v .5 .ensures) ∙ v .6 .left)))
@@ -143,7 +134,6 @@ best-offer-spec =
     Inv-loop
     μ-loop
     headed-count-requires
-    first-places-requires
     loop-holds
     returns
     mul-k
