@@ -233,10 +233,13 @@ pub fn clear(words: &mut [u64], from: usize)
 fn is_not_after(e: Entry, key: u64, day: u64) -> bool
     ensures { λ r. ⌜ r ≡ notAfter e key day ⌝ }
 {
-    if e.key == key {
-        return e.day <= day;
+    if e.key < key {
+        return true;
     }
-    e.key < key
+    if key < e.key {
+        return false;
+    }
+    e.day <= day
 }
 
 // The entries to search: none where the words have no sound header.
