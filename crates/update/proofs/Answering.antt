@@ -1,10 +1,11 @@
 -- What an apply answers and leaves, by the tests of the code. Assumes nothing.
 use mathlib.Core.Path.{_≡_, ap, sym, _∙_}
-use mathlib.Core.Bool.{true}
+use mathlib.Core.Bool.{Bool, true, false}
 use mathlib.Core.List.{List}
 use Prim.Native.Nat.{ℕ, _+_, _*_, _≤_, _<_}
 use native.Mathlib.Omega.{arith}
-use borrow.Author.Tests.{lt-ltb, le-ltb, le-leb, lt-leb, eq-eqb, ne-eqb}
+use borrow.Author.Tests.{lt-ltb, le-ltb, leb-true, eq-eqb, ne-eqb}
+use lib.Dec.{leb}
 use lib.ListN.{length}
 use Rattle.notice.specs.NoticeRule.{Notice, notice, unread, lines, readNotice, checkNotice}
 use Rattle.notice.specs.declared.Summary.{Summary}
@@ -14,6 +15,7 @@ use Rattle.notice.proofs.NoticeLaws.{notice-valid, notice-refusals}
 use Rattle.book.specs.Layout.{periodOf, receivedOf, latestOf, held, bookOf}
 use Rattle.book.specs.Soundness.{sound}
 use Rattle.book.specs.Answers.{bookRefusal}
+use Rattle.book.specs.declared.Entry.{Entry}
 use Rattle.book.proofs.Headers.{sound-book, held-fits}
 use Rattle.book.proofs.Lookups.{usable-book}
 use Rattle.history.specs.Applying.{inBook, afterBook, newEntries, judgedBy, applyRefusal, refusedApply, applyAnswer, applied}
@@ -76,7 +78,7 @@ ready s m k =
       lines-most = omega (arith, p .count, v .few-lines);
     }
 
--- A checked notice against a sound book: 10, 30, or the new book. `entries` and `latest` are what the merge comes to.
+-- A checked notice against a sound book: 10, 30, or the new book.
 module _
     (ws s : List ℕ) (m : Summary) (new : List ℕ) (o : sound ws ≡ true) (h : 4 ≤ length new)
     (k : checkNotice s ≡ checked.Notice m) where
@@ -106,32 +108,31 @@ module _
         let y = ready s m k in
         rw (a, y .sends) (new-facts ws s m o (y .passed) .1)
 
-    -- `kept` is the new book as counting leaves it, and `most` how many entries it can hold
+    -- `kept` is the new book as counting leaves it, and `fits` whether it can hold the entries
     module _
-        {count : ℕ} (e : count ≡ length (mergedBy ws p marks (sentLines s m)))
-        {kept : List ℕ} (q : kept ≡ new) {most : ℕ} (t : most ≡ held (length kept)) where
-      holds : most ≡ held (length new)
-      holds = t ∙ ap (λ (x : List ℕ). held (length x)) q
+        {kept : List ℕ} (q : kept ≡ new)
+        {fits : Bool} (t : fits ≡ leb (length (mergedBy ws p marks (sentLines s m))) (held (length new))) where
+      tests : leb (length (newEntries ws (ready s m k .passed .sent))) (held (length new)) ≡ fits
+      tests = ap (λ (es : List Entry). leb (length es) (held (length new))) (sym merges) ∙ sym t
 
-      pub refuses-full : {r : Applied} → r ≡ refusedApply 30 → most < count
+      pub refuses-full : {r : Applied} → r ≡ refusedApply 30 → fits ≡ false
           → (r ≡ applyAnswer ws s (length new)) × (kept ≡ applied ws s new)
       unfolding judgedBy
       refuses-full u f =
           let y = ready s m k .passed in
           let z =
           refuses ws s new 30 u
-          (by-judge
-          ∙ rw (
-            le-ltb (y .sent .received) (receivedOf ws) (omega (arith, y .received)),
-            lt-leb (length (newEntries ws (y .sent))) (held (length new)) (omega (arith, e, holds, ap length merges)),
-          ))
+          (by-judge ∙ rw (le-ltb (y .sent .received) (receivedOf ws) (omega (arith, y .received)), tests ∙ f))
           (λ z. omega arith) in
           (z .0, q ∙ z .1)
 
-      pub fill-room : count ≤ most → 4 + length (mergedBy ws p marks (sentLines s m)) * 3 ≤ length kept
-      fill-room f = omega (arith, e, ap length q, held-fits count (length new) h (omega (arith, holds)) .1)
+      pub fill-room : fits ≡ true → 4 + length (mergedBy ws p marks (sentLines s m)) * 3 ≤ length kept
+      fill-room f =
+          let count = length (mergedBy ws p marks (sentLines s m)) in
+          omega (arith, ap length q, held-fits count (length new) h (leb-true count (held (length new)) (sym t ∙ f)) .1)
 
-      pub accepts : count ≤ most → {latest : ℕ} → latest ≡ latestBy p (inBook ws) (latestOf ws) (sentLines s m)
+      pub accepts : fits ≡ true → {count : ℕ} → count ≡ length (mergedBy ws p marks (sentLines s m))
+          → {latest : ℕ} → latest ≡ latestBy p (inBook ws) (latestOf ws) (sentLines s m)
           → {next : List ℕ}
           → next
           ≡ bookOf (length kept) (periodOf ws) (m .received) (latestBy p (inBook ws) (latestOf ws) (sentLines s m))
@@ -139,14 +140,10 @@ module _
           → (record { refusal = 0; entries = count; received = m .received; latest = latest } ≡ applyAnswer ws s (length new))
           × (next ≡ applied ws s new)
       unfolding judgedBy applyAnswer applied
-      accepts f d n =
+      accepts f e d n =
           let y = ready s m k .passed in
           let none : applyRefusal ws s (length new) ≡ 0 =
-          by-judge
-          ∙ rw (
-            le-ltb (y .sent .received) (receivedOf ws) (omega (arith, y .received)),
-            le-leb (length (newEntries ws (y .sent))) (held (length new)) (omega (arith, e, holds, ap length merges)),
-          ) in
+          by-judge ∙ rw (le-ltb (y .sent .received) (receivedOf ws) (omega (arith, y .received)), tests ∙ f) in
           let z = eq-eqb (applyRefusal ws s (length new)) 0 none in (
             rw (z, y .read, d ∙ dates, e ∙ ap length merges, y .received),
             n ∙ rw (merges, dates, q, z, y .read, y .received),

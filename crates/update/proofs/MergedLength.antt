@@ -1,12 +1,23 @@
 -- How many entries a new book has. Assumes nothing.
-use mathlib.Core.Path.{ap}
+use mathlib.Core.Path.{_≡_, refl, ap}
 use mathlib.Core.Bool.{Bool}
 use mathlib.Core.List.{List, [], _∷_, _++_}
-use Prim.Native.Nat.{ℕ, _+_, _*_, _≤_}
+use Prim.Native.Nat.{ℕ, suc, _+_, _*_, _≤_}
 use native.Mathlib.Omega.{arith}
-use lib.ListN.{length, length-append}
+use lib.ListN.{length, drop, length-append}
+use Rattle.dial_code.specs.Key.{keysEnd}
+use Rattle.notice.specs.NoticeRule.{lines}
+use Rattle.notice.specs.declared.Line.{Line}
+use Rattle.notice.specs.declared.Summary.{Summary}
+use Rattle.notice.proofs.LinesLaws.{lines-length}
+use Rattle.book.specs.Layout.{countOf, entriesOf}
 use Rattle.book.specs.declared.Entry.{Entry}
+use Rattle.book.proofs.Rows.{length-entries}
+use Rattle.history.specs.Effect.{Known}
+use Rattle.history.specs.Applying.{inBook}
 use Rattle.update.specs.Passes.{unlistedOne, gapBelow, restFrom, placed, listedGroup, restAfter, merged}
+use Rattle.update.specs.Plans.{changesBy, closesBy, linesRead, sentLines, mergedBy}
+use Rattle.update.specs.declared.Plan.{Plan}
 use Rattle.update.proofs.PassCases.{in-parts, unlisted-cases, gap-cases, from-cases, after-cases, placed-cases, group-cases}
 
 module _ (closes : ℕ → Bool) (day : ℕ) where
@@ -58,7 +69,7 @@ group-length c status (e ∷ es) =
     (λ m. omega (arith, placed-length c status)))
 
 -- An entry gives at most two, a line at most one.
-pub merged-length :
+merged-length :
     (end : ℕ) (closes : ℕ → Bool) (day : ℕ) (es cs : List Entry)
     → length (merged end closes day es cs) ≤ 2 * length es + length cs
 unfolding merged
@@ -75,4 +86,23 @@ merged-length end closes day es (c ∷ cs) =
       gap-length closes day (c .key) es,
       group-length c 0 from,
       merged-length end closes day more cs,
+    )
+
+length-changes : (p : Plan) (before : Known) (ls : List Line) → length (changesBy p before ls) ≡ length ls
+unfolding changesBy
+length-changes p before [] = refl
+length-changes p before (l ∷ ls) = ap suc (length-changes p before ls)
+
+-- The same of a book and the lines of a notice.
+pub merged-most : (ws : List ℕ) (p : Plan) (marks s : List ℕ) (m : Summary) → linesRead s m ≡ lines (sentLines s m)
+    → length (mergedBy ws p marks (sentLines s m)) ≤ countOf ws * 2 + m .lines
+unfolding mergedBy
+merged-most ws p marks s m e =
+    let ls = sentLines s m in
+    omega (
+      arith,
+      merged-length keysEnd (closesBy p marks) (p .closing) (entriesOf ws) (changesBy p (inBook ws) ls),
+      length-entries ws,
+      length-changes p (inBook ws) ls,
+      lines-length (m .lines) (m .country) 0 0 (drop (m .start) s) ls e,
     )

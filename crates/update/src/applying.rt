@@ -2,11 +2,12 @@
 ghost use mathlib.Core.Path.{_≡_};
 ghost use mathlib.Core.Bool.{true};
 ghost use Prim.Native.Nat.{_+_, _*_, _≤_};
+ghost use lib.Dec.{leb};
 ghost use lib.ListN.{length};
 ghost use Rattle.dial_code.specs.CountryCode.{countryOfKey};
 ghost use Rattle.notice.specs.NoticeRule.{lines, checkNotice};
 ghost use Rattle.notice.specs.declared.Checked.the-variants.{Notice};
-ghost use Rattle.book.specs.Layout.{wordsOf, bookOf, periodOf, latestOf};
+ghost use Rattle.book.specs.Layout.{held, wordsOf, bookOf, periodOf, latestOf};
 ghost use Rattle.book.specs.Soundness.{sound};
 ghost use Rattle.history.specs.Applying.{inBook, refusedApply, applyAnswer, applied};
 ghost use Rattle.update.specs.Plans.{latestBy, marked, marksOf, marksFor, linesRead, sentLines, mergedBy, stored};
@@ -75,10 +76,43 @@ fn merge(
     }
 }
 
+// Whether the new book can hold the merged entries. They are at most two for each old entry and one for each line, and are only
+// counted where there might be no room for so many.
+fn has_room(
+    old: &[u64],
+    notice: &[u8],
+    m: Summary,
+    plan: Plan,
+    marks: &[u8; 1000],
+    new: &mut [u64],
+) -> bool
+    requires { ⌜ (sound (now old) ≡ true) × (linesRead (now notice) m ≡ lines (sentLines (now notice) m)) × (m .lines ≤ 65535) ⌝ }
+    ensures { λ r. ⌜ r ≡ leb (length (mergedBy (now (old .entry)) plan (now (marks .entry)) (sentLines (now (notice .entry))
+        m))) (held (length (now (new .entry)))) ⌝ }
+    ensures { λ _. ⌜ now (new .exit) ≡ now (new .entry) ⌝ }
+{
+    let most = book::entries_held(new.len());
+    if old[0] * 2 + m.lines <= most as u64 {
+        return true;
+    }
+    let counted = merge(old, notice, m, plan, marks, new, false);
+    counted.count <= most
+}
+
 // Writes the new book: entries, zeros, header.
-fn fill(old: &[u64], notice: &[u8], m: Summary, plan: Plan, marks: &[u8; 1000], new: &mut [u64])
+fn fill(
+    old: &[u64],
+    notice: &[u8],
+    m: Summary,
+    plan: Plan,
+    marks: &[u8; 1000],
+    new: &mut [u64],
+) -> Merged
     requires { ⌜ (sound (now old) ≡ true) × (linesRead (now notice) m ≡ lines (sentLines (now notice) m)) × (m .lines ≤ 65535) ⌝ }
     requires { ⌜ 4 + length (mergedBy (now old) plan (now marks) (sentLines (now notice) m)) * 3 ≤ length (now new) ⌝ }
+    ensures { λ r. ⌜ (r .count ≡ length (mergedBy (now (old .entry)) plan (now (marks .entry)) (sentLines (now (notice
+        .entry)) m))) × (r .latest ≡ latestBy plan (inBook (now (old .entry))) (latestOf (now (old .entry))) (sentLines (now
+        (notice .entry)) m)) ⌝ }
     ensures { λ _. ⌜ now (new .exit) ≡ bookOf (length (now (new .entry))) (periodOf (now (old .entry))) (m .received)
         (latestBy plan (inBook (now (old .entry))) (latestOf (now (old .entry))) (sentLines (now (notice .entry)) m))
         (mergedBy (now (old .entry)) plan (now (marks .entry)) (sentLines (now (notice .entry)) m)) ⌝ }
@@ -89,6 +123,7 @@ fn fill(old: &[u64], notice: &[u8], m: Summary, plan: Plan, marks: &[u8; 1000], 
     new[1] = old[1];
     new[2] = m.received;
     new[3] = done.latest;
+    done
 }
 
 fn refused(e: u64) -> Applied
@@ -159,16 +194,15 @@ fn apply_checked(old: &[u64], notice: &[u8], m: Summary, new: &mut [u64]) -> App
     }
     let plan = crate::plan_of(m, old[1], old[3]);
     let marks = marks_for(notice, m);
-    let counted = merge(old, notice, m, plan, &marks, new, false);
-    if book::entries_held(new.len()) < counted.count {
+    if !has_room(old, notice, m, plan, &marks, new) {
         return refused(refusal::BOOK_FULL);
     }
-    fill(old, notice, m, plan, &marks, new);
+    let done = fill(old, notice, m, plan, &marks, new);
     Applied {
         refusal: 0,
-        entries: counted.count as u64,
+        entries: done.count as u64,
         received: m.received,
-        latest: counted.latest,
+        latest: done.latest,
     }
 }
 

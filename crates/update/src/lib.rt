@@ -1,5 +1,5 @@
 // Applying a notice to a book (document 01, "Effective days", "The book"): a few passes over the notice and one merge with the
-// old entries, counted first and then written.
+// old entries, counted first unless there is room in any case, and then written.
 ghost use mathlib.Core.Path.{_≡_};
 ghost use mathlib.Core.List.{[], _∷_};
 ghost use mathlib.Core.Bool.{true};

@@ -1,8 +1,8 @@
 -- `update::applying::apply_checked` meets its contract: 10, 30, or the new book. Assumes nothing.
 use mathlib.Core.Path.{_∙_}
-use mathlib.Core.Bool.{false≢true}
 use native.Mathlib.Omega.{arith}
 use borrow.Author.Needs.{needs}
+use borrow.Author.Tests.{not-true, not-false}
 use Rattle.book.proofs.Headers.{sound-book}
 use Rattle.update.proofs.Answering.{ready, refuses-earlier, refuses-full, fill-room, accepts}
 use Rattle.update.proofs.applying.apply_checked.Statement.{statement}
@@ -40,63 +40,60 @@ marks-for-requires c κs =
     let d = c .before .before .before in
     ready _ _ (d .before .before .before .before .before .before .pre .2) .reads
 
-merge-requires : tie.Need-merge-requires
-merge-requires c κs =
-    let d = c .before .before .before .before .before .before in
-    let p = d .before .before .before .before .before .before .pre in
+has-room-requires : tie.Need-has-room-requires
+has-room-requires c κs =
+    let p = c .before .before .before .before .before .before .before .before .before .before .before .before .pre in
     let y = ready _ _ (p .2) in
-    ((p .0, y .reads, y .lines-most), λ w. absurd (false≢true w))
-
-entries-held-requires : tie.Need-entries-held-requires
-entries-held-requires c κs = search needs
+    (p .0, y .reads, y .lines-most)
 
 refused-requires-2 : tie.Need-refused-requires-2
 refused-requires-2 c κs = search needs
 
 same-length : tie.Need-same-length
-same-length c = c .before .before .before .before .before .before .merge .kept .1 .1 .1 .1 .1 .0
+same-length c = c .before .before .before .before .has-room .kept .1 .1 .1 .1 .1 .0
 
 returns-2 : tie.Need-returns-2
 returns-2 c =
-    let e = c .before .before .before in
-    let f = e .before .before .before in
-    let g = f .before .before .before in
-    let d = g .before .before .before .before in
-    let p = d .before .before .before .before .before .before .pre in
-    let m = f .merge .ensures in
-    refuses-full _ _ _ _ (p .0) (p .1) (p .2) (d .if1 .left) (g .before .plan-of .ensures) (g .marks-for .ensures)
-    (m .0 .0) (m .1) (e .entries-held .ensures) (c .refused2 .ensures) (c .before .if2 .taken)
+    let h = c .before .before .before .before in
+    let d = h .before .before .before .before .before .before .before in
+    let s = d .before .before .before .before .before .before in
+    let a = s .args in
+    let p = s .pre in
+    refuses-full (a .old .now) (a .notice .now) (a .m) (a .new .now) (p .0) (p .1) (p .2) (d .if1 .left)
+    (h .before .before .before .before .plan-of .ensures) (h .before .before .before .marks-for .ensures)
+    (h .has-room .ensures .1) (h .has-room .ensures .0) (c .refused2 .ensures) (not-true _ (c .before .if2 .taken))
 
 fill-requires : tie.Need-fill-requires
 fill-requires c κs =
-    let e = c .before .before .before .before in
-    let f = e .before .before .before in
-    let g = f .before .before .before in
-    let d = g .before .before .before .before in
-    let p = d .before .before .before .before .before .before .pre in
-    let m = f .merge .ensures in
+    let h = c .before .before .before .before .before in
+    let d = h .before .before .before .before .before .before .before in
+    let s = d .before .before .before .before .before .before in
+    let a = s .args in
+    let p = s .pre in
     let y = ready _ _ (p .2) in (
       (p .0, y .reads, y .lines-most),
-      fill-room _ _ _ _ (p .0) (p .1) (p .2) (d .if1 .left) (g .before .plan-of .ensures) (g .marks-for .ensures)
-          (m .0 .0) (m .1) (e .entries-held .ensures) (c .before .before .if2 .left),
+      fill-room (a .old .now) (a .notice .now) (a .m) (a .new .now) (p .0) (p .1) (p .2) (d .if1 .left)
+          (h .before .before .before .before .plan-of .ensures) (h .before .before .before .marks-for .ensures)
+          (h .has-room .ensures .1) (h .has-room .ensures .0) (not-false _ (c .before .before .if2 .left)),
     )
 
 same-length-2 : tie.Need-same-length-2
 same-length-2 c =
-    let d = c .before .before .before .before .before .before .before .before .before .before in
-    c .before .before .fill .kept .1 .1 .1 .1 .1 .0 ∙ d .merge .kept .1 .1 .1 .1 .1 .0
+    let h = c .before .before .before .before .before .before .before .before in
+    c .before .before .fill .kept .1 .1 .1 .1 .1 .0 ∙ h .has-room .kept .1 .1 .1 .1 .1 .0
 
 returns-3 : tie.Need-returns-3
 returns-3 c =
-    let e = c .before .before .before .before .before .before .before in
-    let f = e .before .before .before in
-    let g = f .before .before .before in
-    let d = g .before .before .before .before in
-    let p = d .before .before .before .before .before .before .pre in
-    let m = f .merge .ensures in
-    accepts _ _ _ _ (p .0) (p .1) (p .2) (d .if1 .left) (g .before .plan-of .ensures) (g .marks-for .ensures)
-    (m .0 .0) (m .1) (e .entries-held .ensures) (c .before .before .before .before .before .if2 .left)
-    (m .0 .1) (c .before .before .fill .ensures)
+    let h = c .before .before .before .before .before .before .before .before in
+    let d = h .before .before .before .before .before .before .before in
+    let s = d .before .before .before .before .before .before in
+    let a = s .args in
+    let p = s .pre in
+    let f = c .before .before .fill .ensures in
+    accepts (a .old .now) (a .notice .now) (a .m) (a .new .now) (p .0) (p .1) (p .2) (d .if1 .left)
+    (h .before .before .before .before .plan-of .ensures) (h .before .before .before .marks-for .ensures)
+    (h .has-room .ensures .1) (h .has-room .ensures .0) (not-false _ (c .before .before .before .before .before .if2 .left))
+    (f .0 .0) (f .0 .1) (f .1)
 
 pub apply-checked-spec : {M : Type 1} → statement M
 apply-checked-spec =
@@ -109,8 +106,7 @@ apply-checked-spec =
     shared-slice-read-plan-of-2
     plan-of-requires
     marks-for-requires
-    merge-requires
-    entries-held-requires
+    has-room-requires
     refused-requires-2
     same-length
     returns-2

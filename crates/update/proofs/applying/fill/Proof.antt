@@ -65,9 +65,11 @@ same-length c = simp length-set (same (c .before .before .before))
 returns : tie.Need-returns
 returns c =
     let d = c .before .before .before .before .before .before .before .before in
-    let m = d .merge .ensures in
-    book-made _ _ _ _ _ (d .before .before .before .before .before .pre .1) (m .0 .0) (m .0 .1) (m .1)
-    (c .before .before .before .clear .ensures)
+    let m = d .merge .ensures in (
+      m .0,
+      book-made _ _ _ _ _ (d .before .before .before .before .before .pre .1) (m .0 .0) (m .0 .1) (m .1)
+          (c .before .before .before .clear .ensures),
+    )
 
 pub fill-spec : {M : Type 1} → statement M
 fill-spec =
