@@ -10,7 +10,7 @@ use lib.ListN.{length}
 use Rattle.dial_code.specs.Key.{keysEnd, firstPlace, placesOf, digitsOfKey}
 use Rattle.dial_code.specs.CountryCode.{oneDigit, twoDigits, country, countryOfKey}
 use Rattle.dial_code.specs.declared.Country.the-variants.{Code, None}
-use Rattle.dial_code.proofs.Tests.{below, allBelow, each-below}
+use Rattle.dial_code.proofs.Tests.{allBelow, each-below}
 
 same : Bool → Bool → Bool
 same true b = b
