@@ -5,7 +5,7 @@ use mathlib.Core.Bool.{Bool, true, false, cond, _&&_}
 use mathlib.Core.List.{List, [], _∷_}
 use Prim.Native.Nat.{ℕ, zero, suc, _+_, _-_, _*_, _/_, _%_, _≤_, _<_}
 use native.Mathlib.Omega.{arith}
-use borrow.Author.Tests.{le-leb, eq-eqb, ne-eqb, eqb-true}
+use borrow.Author.Tests.{le-leb, eq-eqb, eqb-true}
 use lib.Dec.{eqb, leb}
 use lib.ListN.{length, take}
 use Rattle.dial_code.specs.Digits.{every, isDigit, isNumber, value}
@@ -59,31 +59,20 @@ digits-places (suc k) w h =
       | above l ↦ absurd (omega arith)
     ]
 
--- A word is the key of its digits or not, one place at a time: nothing is left; a gap; all places are read; one place more.
-pub nothing-left : (k w : ℕ) → w ≡ 0 → keyed k w ≡ true
-unfolding placesOf
-nothing-left zero w e = eq-eqb (key []) w (key-empty ∙ sym e)
-nothing-left (suc k) w e = eq-eqb _ _ (ap key (places-none k w (omega arith)) ∙ key-empty ∙ sym e)
+-- A word is the key of its digits or not: none is left to read, and one place more.
+pub no-more : (k w : ℕ) → placesOf k w ≡ [] → keyed k w ≡ eqb w 0
+no-more k w e =
+    let z : key (placesOf k w) ≡ 0 = ap key e ∙ key-empty in
+    same-eqb (key (placesOf k w)) w w 0 (λ p. sym p ∙ z) (λ p. z ∙ sym p)
 
-pub a-gap : (k w : ℕ) → 0 < k → (w ≡ 0 → ⊥) → w < firstPlace → keyed k w ≡ false
-a-gap zero w l n h = absurd (omega arith)
-a-gap (suc k) w l n h = ne-eqb _ _ (λ e. n (sym e ∙ ap key (places-none k w (omega arith)) ∙ key-empty))
-
-pub all-read : (k w : ℕ) → k ≡ 0 → keyed k w ≡ eqb w 0
-unfolding placesOf
-all-read zero w e = same-eqb (key []) w w 0 (λ p. sym p ∙ key-empty) (λ p. key-empty ∙ sym p)
-all-read (suc k) w e = absurd (omega arith)
-
-pub one-more : (k w : ℕ) → 0 < k → k ≤ 15 → firstPlace ≤ w → keyed k w ≡ keyed (k - 1) (w % firstPlace * 11)
-one-more zero w l m h = absurd (omega arith)
-one-more (suc k) w l m h =
+pub one-more : (k w : ℕ) → k < 15 → firstPlace ≤ w → keyed (suc k) w ≡ keyed k (w % firstPlace * 11)
+one-more k w l h =
     let p : placesOf (suc k) w ≡ (w / firstPlace - 1) ∷ rest = places-some k w (omega arith) in
     let q : key (placesOf (suc k) w) ≡ (w / firstPlace - 1 + 1) * firstPlace + keyFrom 2 rest =
     ap key p ∙ key-cons (w / firstPlace - 1) rest in
     let s : keyFrom 2 rest * 11 ≡ key rest = key-tail rest (omega (arith, length-places k (w % firstPlace * 11))) in
-    let f : suc k - 1 ≡ k = omega arith in
     let v : (w / firstPlace - 1 + 1) * firstPlace + w % firstPlace ≡ w = omega arith in
-    rw (f, q)
+    rw q
     (same-eqb ((w / firstPlace - 1 + 1) * firstPlace + keyFrom 2 rest) w (key rest) (w % firstPlace * 11)
     (λ (e : (w / firstPlace - 1 + 1) * firstPlace + keyFrom 2 rest ≡ w). omega (arith, s, v))
     (λ (e : key rest ≡ w % firstPlace * 11). omega (arith, s, v)))

@@ -4,6 +4,7 @@ pub mod DigitLaws
 pub mod KeyLaws
 pub mod CountryLaws
 pub mod CodeLaws
+pub mod Gapless
 pub mod KeyCode
 pub mod SentNumbers
 pub mod Spelling

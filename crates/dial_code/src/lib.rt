@@ -255,20 +255,33 @@ pub fn country_of(count: u64, value: u64) -> Country
     }
 }
 
-// Whether no place of a word that holds a digit stands after one that holds none: the word is the key of its digits.
+// Whether no place of a word that holds a digit stands after one that holds none: the word is the key of its digits. Three places
+// are read at a time.
 fn is_gapless(word: u64) -> bool
     ensures { λ r. ⌜ r ≡ eqb (key (placesOf 15 word)) word ⌝ }
 {
     let mut rest = word;
-    let mut left: u64 = MOST_DIGITS;
+    let mut left: u64 = 5;
     while 0 < left {
-        if rest == 0 {
-            return true;
+        let places = rest / THIRD_PLACE;
+        rest = rest % THIRD_PLACE * 1_331;
+        // The third holds none.
+        if places % 11 == 0 {
+            if rest != 0 {
+                return false;
+            }
+            if places == 0 {
+                return true;
+            }
+            return 121 <= places;
         }
-        if rest < FIRST_PLACE {
+        // It holds one, and the second or the first none.
+        if places % 121 < 11 {
             return false;
         }
-        rest = rest % FIRST_PLACE * 11;
+        if places < 121 {
+            return false;
+        }
         left -= 1;
     }
     rest == 0

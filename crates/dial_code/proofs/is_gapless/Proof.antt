@@ -1,17 +1,16 @@
 -- is_gapless meets its contract. The loop's invariant: the word is the key of its digits where what is left, moved up, is the
--- key of its own. The measure is the number of places left. Assumes nothing.
+-- key of its own. The measure is the number of threes of places left. Assumes nothing.
 use mathlib.Core.Path.{_≡_, refl, sym, _∙_}
-use Prim.Native.Nat.{_≤_}
+use Prim.Native.Nat.{_*_, _≤_}
 use native.Mathlib.Omega.{arith}
 use borrow.Author.Needs.{needs}
-use lib.Dec.{eqb}
-use Rattle.dial_code.specs.Key.{key, placesOf}
-use Rattle.dial_code.proofs.CodeLaws.{nothing-left, a-gap, one-more, all-read}
+use Rattle.dial_code.proofs.CodeLaws.{keyed}
+use Rattle.dial_code.proofs.Gapless.{more-behind, nothing-left, ends-here, second-gap, first-gap, goes-on, all-read}
 use Rattle.dial_code.proofs.is_gapless.Statement.{statement}
 use Rattle.dial_code.proofs.is_gapless.Tie as tie
 
 abbrev Inv-loop : tie.InvT-loop
-Inv-loop word rest₀ left₀ rest left = (left ≤ 15) × (eqb (key (placesOf 15 word)) word ≡ eqb (key (placesOf left rest)) rest)
+Inv-loop word rest₀ left₀ rest left = (left ≤ 5) × (keyed 15 word ≡ keyed (left * 3) rest)
 
 abbrev μ-loop : tie.MeasureT-loop
 μ-loop word rest₀ left₀ rest left = left
@@ -19,16 +18,38 @@ abbrev μ-loop : tie.MeasureT-loop
 loop-holds : tie.Need-loop-holds Inv-loop μ-loop
 loop-holds c = (omega arith, refl)
 
+mul-rest : tie.Need-mul-rest Inv-loop μ-loop
+mul-rest c = search needs
+
 returns : tie.Need-returns Inv-loop μ-loop
-returns c = sym (c .before .before .loop .inv .1 ∙ nothing-left _ _ (c .if1 .taken))
+returns c =
+    let p = c .before .before in
+    let l = p .before .loop in
+    sym (l .inv .1 ∙ more-behind _ _ (p .loop-test .taken) (l .inv .0) (c .before .if1 .taken) (c .if2 .taken))
 
 returns-2 : tie.Need-returns-2 Inv-loop μ-loop
 returns-2 c =
-    let p = c .before .before in
-    sym (p .before .loop .inv .1 ∙ a-gap _ _ (p .loop-test .taken) (c .before .if1 .left) (c .if2 .taken))
+    let p = c .before .before .before in
+    let l = p .before .loop in
+    sym (l .inv .1 ∙ nothing-left _ _ (p .loop-test .taken) (l .inv .0) (c .before .if2 .left) (c .if3 .taken))
 
-mul-rest : tie.Need-mul-rest Inv-loop μ-loop
-mul-rest c = search needs
+returns-3 : tie.Need-returns-3 Inv-loop μ-loop
+returns-3 c =
+    let p = c .before .before .before in
+    let l = p .before .loop in
+    sym (l .inv .1 ∙ ends-here _ _ (p .loop-test .taken) (l .inv .0) (c .before .before .if1 .taken) (c .before .if2 .left) (c .if3 .left))
+
+returns-4 : tie.Need-returns-4 Inv-loop μ-loop
+returns-4 c =
+    let p = c .before .before in
+    let l = p .before .loop in
+    sym (l .inv .1 ∙ second-gap _ _ (p .loop-test .taken) (l .inv .0) (c .before .if1 .left) (c .if4 .taken))
+
+returns-5 : tie.Need-returns-5 Inv-loop μ-loop
+returns-5 c =
+    let p = c .before .before .before in
+    let l = p .before .loop in
+    sym (l .inv .1 ∙ first-gap _ _ (p .loop-test .taken) (l .inv .0) (c .before .before .if1 .left) (c .if5 .taken))
 
 sub-left : tie.Need-sub-left Inv-loop μ-loop
 sub-left c = search needs
@@ -38,11 +59,12 @@ loop-less c = search needs
 
 loop-again : tie.Need-loop-again Inv-loop μ-loop
 loop-again c =
-    let l = c .before .before .before .loop in
-    (omega arith, l .inv .1 ∙ one-more _ _ (c .before .before .loop-test .taken) (l .inv .0) (c .if2 .left))
+    let p = c .before .before .before in
+    let l = p .before .loop in
+    (omega arith, l .inv .1 ∙ goes-on _ _ (p .loop-test .taken) (l .inv .0) (c .before .before .if1 .left) (c .before .if4 .left) (c .if5 .left))
 
-returns-3 : tie.Need-returns-3 Inv-loop μ-loop
-returns-3 c = sym (c .before .loop .inv .1 ∙ all-read _ _ (omega arith))
+returns-6 : tie.Need-returns-6 Inv-loop μ-loop
+returns-6 c = sym (c .before .loop .inv .1 ∙ all-read _ _ (omega arith))
 
 pub is-gapless-spec : {M : Type 1} → statement M
 is-gapless-spec =
@@ -51,10 +73,13 @@ is-gapless-spec =
     Inv-loop
     μ-loop
     loop-holds
+    mul-rest
     returns
     returns-2
-    mul-rest
+    returns-3
+    returns-4
+    returns-5
     sub-left
     loop-less
     loop-again
-    returns-3)
+    returns-6)
