@@ -1,6 +1,10 @@
 // Which codes a notice closes, by their countries (document 01, "Effective days").
 ghost use mathlib.Core.Path.{_≡_};
+ghost use mathlib.Core.Bool.{_&&_};
+ghost use lib.Dec.{leb, ltb};
 ghost use Rattle.update.specs.Plans.{isMarked, closesBy};
+ghost use Rattle.update.specs.Standing.{AlikeIn, AlikeAnyway};
+use crate::Alike;
 use crate::Plan;
 use dial_code::Country;
 
@@ -42,4 +46,58 @@ pub fn closes(plan: Plan, marks: &[u8; 1000], key: u64) -> bool
         }
     }
     false
+}
+
+// The codes that a notice closes alike whatever their countries: all or none.
+pub fn alike_anyway(plan: Plan) -> Alike
+    ensures { λ r. ⌜ AlikeAnyway plan r ⌝ }
+{
+    if plan.kind == notice::FULL {
+        return Alike {
+            low: 0,
+            high: dial_code::KEYS_END,
+            closed: true,
+        };
+    }
+    if plan.kind == notice::UPDATE {
+        return Alike {
+            low: 0,
+            high: dial_code::KEYS_END,
+            closed: false,
+        };
+    }
+    Alike {
+        low: 0,
+        high: 0,
+        closed: false,
+    }
+}
+
+// The codes with the first three places of one, which have its country.
+pub fn alike_with(plan: Plan, marks: &[u8; 1000], key: u64) -> Alike
+    ensures { λ r. ⌜ (r .closed ≡ closesBy plan (now (marks .entry)) key) × AlikeIn plan (now (marks .entry)) r ⌝ }
+{
+    let closed = closes(plan, marks, key);
+    if dial_code::KEYS_END <= key {
+        return Alike {
+            low: 0,
+            high: 0,
+            closed,
+        };
+    }
+    let low = key - key % dial_code::THIRD_PLACE;
+    Alike {
+        low,
+        high: low + dial_code::THIRD_PLACE,
+        closed,
+    }
+}
+
+pub fn covers(alike: Alike, key: u64) -> bool
+    ensures { λ r. ⌜ r ≡ (leb (alike .low) key && ltb key (alike .high)) ⌝ }
+{
+    if key < alike.low {
+        return false;
+    }
+    key < alike.high
 }

@@ -34,6 +34,13 @@ pub struct Plan {
     pub closing: u64,
 }
 
+// Whether a notice closes the codes with keys from `low` on and below `high` that it does not list: all of them, or none.
+pub struct Alike {
+    pub low: u64,
+    pub high: u64,
+    pub closed: bool,
+}
+
 // Where a merge stands: the place of the next old entry, how many are left, and how many entries the new book has so far.
 pub struct Place {
     pub at: usize,
@@ -236,8 +243,8 @@ fn put_unlisted(
     count + 2
 }
 
-// Passes the entries of keys below one, none of which the notice lists. Codes with the same first three places have the same
-// country, so whether they are closed is worked once for all that follow one another.
+// Passes the entries of keys below one, none of which the notice lists. Whether they are closed is worked out once for codes that
+// follow one another and are closed alike.
 fn pass_unlisted(
     old: &[u64],
     from: Place,
@@ -261,22 +268,18 @@ fn pass_unlisted(
     let mut left = from.left;
     let mut count = from.count;
     let day = plan.closing;
-    // No key below has these places.
-    let mut places = below;
-    let mut closed = false;
+    let mut alike = countries::alike_anyway(plan);
     while 0 < left {
         let e = entry_at(old, at);
         if below <= e.key {
             return Place { at, left, count };
         }
-        let own = e.key / dial_code::THIRD_PLACE;
-        if own != places {
-            places = own;
-            closed = countries::closes(plan, marks, e.key);
+        if !countries::covers(alike, e.key) {
+            alike = countries::alike_with(plan, marks, e.key);
         }
         at += book::ENTRY_WORDS;
         left -= 1;
-        count = put_unlisted(old, at, left, e, closed, day, new, count, write);
+        count = put_unlisted(old, at, left, e, alike.closed, day, new, count, write);
     }
     Place { at, left, count }
 }

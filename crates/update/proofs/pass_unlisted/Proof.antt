@@ -1,35 +1,40 @@
--- `update::pass_unlisted` meets its contract. The loop's invariant: putting what is left of the gap does the whole of it, and the
--- answer remembered is that of every key below with the places remembered. Assumes nothing.
+-- `update::pass_unlisted` meets its contract. The loop's invariant: putting what is left of the gap does the whole of it, and codes
+-- remembered as alike are closed alike. Assumes nothing.
 use mathlib.Core.Path.{_≡_, refl, sym, _∙_}
 use mathlib.Core.Logic.{⊎-elim}
+use mathlib.Core.Bool.{and-eq-true-iff}
 use mathlib.Core.List.{_++_}
-use Prim.Native.Nat.{ℕ, _+_, _-_, _*_, _/_, _≤_, _<_}
+use Prim.Native.Nat.{_+_, _-_, _*_, _≤_}
 use native.Mathlib.Omega.{arith}
 use borrow.Author.Needs.{needs}
+use borrow.Author.Tests.{leb-true, ltb-true, not-false}
 use lib.ListN.{length}
 use Rattle.book.specs.Layout.{entriesFrom}
 use Rattle.book.proofs.Rows.{rows-none}
 use Rattle.update.specs.Passes.{gapBelow, restFrom, unlistedAs}
 use Rattle.update.specs.Plans.{closesBy}
-use Rattle.update.proofs.Planning.{closes-alike}
+use Rattle.update.specs.Standing.{AlikeIn}
 use Rattle.update.proofs.Stores.{Writing, writing-all, writing-on, writing-counted, writing-end, writing-room}
 use Rattle.update.proofs.PassLaws.{next-row, gap-on, gap-stops, gap-none, rest-on, rest-stops, rest-none, at-most-two}
 use Rattle.update.proofs.pass_unlisted.Statement.{statement}
 use Rattle.update.proofs.pass_unlisted.Tie as tie
 
 abbrev Inv-loop : tie.InvT-loop
-Inv-loop old below plan marks new₀ write at₀ left₀ count₀ day places₀ closed₀ new at left count places closed =
+Inv-loop old below plan marks new₀ write at₀ left₀ count₀ day alike₀ new at left count alike =
     (at + left * 3 ≤ length old) × (left ≤ left₀) × (count + 2 * left ≤ count₀ + 2 * left₀)
     × Writing write new₀ count₀ (gapBelow below (closesBy plan marks) (plan .closing) (entriesFrom old at₀ left₀)) new count
     (gapBelow below (closesBy plan marks) (plan .closing) (entriesFrom old at left))
     × (restFrom below (entriesFrom old at left) ≡ restFrom below (entriesFrom old at₀ left₀))
-    × ((k : ℕ) → k < below → k / 3138428376721 ≡ places → closed ≡ closesBy plan marks k)
+    × AlikeIn plan marks alike
 
 abbrev μ-loop : tie.MeasureT-loop
-μ-loop old below plan marks new₀ write at₀ left₀ count₀ day places₀ closed₀ new at left count places closed = left
+μ-loop old below plan marks new₀ write at₀ left₀ count₀ day alike₀ new at left count alike = left
 
 loop-holds : tie.Need-loop-holds Inv-loop μ-loop
-loop-holds c = (omega arith, omega arith, omega arith, writing-all _ _ _ _, refl, λ k h e. absurd (omega arith))
+loop-holds c = (omega arith, omega arith, omega arith, writing-all _ _ _ _, refl, c .alike-anyway .ensures _)
+
+alike-anyway-requires : tie.Need-alike-anyway-requires Inv-loop μ-loop
+alike-anyway-requires c κs = search needs
 
 entry-at-requires : tie.Need-entry-at-requires Inv-loop μ-loop
 entry-at-requires c κs = search needs
@@ -40,7 +45,7 @@ same-length c = search needs
 returns : tie.Need-returns Inv-loop μ-loop
 returns c =
     let p = c .before .before in
-    let a = p .before .before .before .before .before .args in
+    let a = p .before .before .before .before .before .before .args in
     let l = p .before .before .loop in
     let q = next-row (a .old .now) (l .at) (l .left) (p .before .loop-test .taken) (p .entry-at .ensures) in
     let none = gap-stops (a .below) (closesBy (a .plan) (a .marks .now)) (a .plan .closing) _ _ q (c .if1 .taken) in (
@@ -53,8 +58,11 @@ returns c =
       writing-end (l .inv .3) none,
     )
 
-closes-requires : tie.Need-closes-requires Inv-loop μ-loop
-closes-requires c κs = search needs
+covers-requires : tie.Need-covers-requires Inv-loop μ-loop
+covers-requires c κs = search needs
+
+alike-with-requires : tie.Need-alike-with-requires Inv-loop μ-loop
+alike-with-requires c κs = search needs
 
 add-at : tie.Need-add-at Inv-loop μ-loop
 add-at c = search needs
@@ -62,30 +70,32 @@ add-at c = search needs
 sub-left : tie.Need-sub-left Inv-loop μ-loop
 sub-left c = search needs
 
--- what is remembered are the entry's first three places, and whether its code is closed
+-- what is remembered of codes closed alike, and whether the entry's is closed
 is-known : (c : tie.Joined2 Inv-loop μ-loop) →
     let p = c .before .before .before .before in
-    let a = p .before .before .before .before .before .args in
-    (c .if2 .places ≡ p .entry-at .result .key / 3138428376721)
-    × (c .if2 .closed ≡ closesBy (a .plan) (a .marks .now) (p .entry-at .result .key))
+    let a = p .before .before .before .before .before .before .args in
+    AlikeIn (a .plan) (a .marks .now) (c .if2 .alike)
+    × (c .if2 .alike .closed ≡ closesBy (a .plan) (a .marks .now) (p .entry-at .result .key))
 is-known c =
     let l = c .before .before .before .before .before .before .loop in
-    ⊎-elim (λ v. (v .2, v .3 ∙ v .1 .ensures))
-    (λ v. (v .1 ∙ sym (v .0 .left), v .2 ∙ l .inv .5 _ (c .before .before .if1 .left) (v .0 .left)))
+    ⊎-elim (λ v. rw (v .2) (v .1 .ensures .1, v .1 .ensures .0))
+    (λ v.
+    let t = and-eq-true-iff _ _ .0 (sym (c .before .covers .ensures) ∙ not-false _ (v .0 .left)) in
+    rw (v .1) (l .inv .5, l .inv .5 _ (leb-true _ _ (t .0)) (ltb-true _ _ (t .1))))
     (c .if2 .came)
 
 at-entry : (c : tie.Joined2 Inv-loop μ-loop) →
     let p = c .before .before .before .before in
-    let a = p .before .before .before .before .before .args in
+    let a = p .before .before .before .before .before .before .args in
     let l = p .before .before .loop in
     let closes = closesBy (a .plan) (a .marks .now) in
     let day = a .plan .closing in
     let es = entriesFrom (a .old .now) (l .at + 3) (l .left - 1) in
     gapBelow (a .below) closes day (entriesFrom (a .old .now) (l .at) (l .left))
-    ≡ unlistedAs (c .if2 .closed) day (p .entry-at .result) es ++ gapBelow (a .below) closes day es
+    ≡ unlistedAs (c .if2 .alike .closed) day (p .entry-at .result) es ++ gapBelow (a .below) closes day es
 at-entry c =
     let p = c .before .before .before .before in
-    let a = p .before .before .before .before .before .args in
+    let a = p .before .before .before .before .before .before .args in
     let q = next-row _ _ _ (p .before .loop-test .taken) (p .entry-at .ensures) in
     gap-on (a .below) (closesBy (a .plan) (a .marks .now)) (a .plan .closing) _ _ q (c .before .before .if1 .left)
     (is-known c .1)
@@ -93,11 +103,11 @@ at-entry c =
 put-unlisted-requires : tie.Need-put-unlisted-requires Inv-loop μ-loop
 put-unlisted-requires c κs =
     let p = c .before .before .before .before .before in
-    let a = p .before .before .before .before .before .args in
+    let a = p .before .before .before .before .before .before .args in
     let l = p .before .before .loop in
     let es = entriesFrom (a .old .now) (l .at + 3) (l .left - 1) in
-    let put = unlistedAs (c .before .if2 .closed) (a .plan .closing) (p .entry-at .result) es in
-    let room = p .before .before .before .before .before .pre .1 in
+    let put = unlistedAs (c .before .if2 .alike .closed) (a .plan .closing) (p .entry-at .result) es in
+    let room = p .before .before .before .before .before .before .pre .1 in
     let rest = gapBelow (a .below) (closesBy (a .plan) (a .marks .now)) (a .plan .closing) es in
     ((omega arith, omega arith), writing-room (l .inv .3) put rest (at-entry (c .before)) room)
 
@@ -108,17 +118,17 @@ loop-again : tie.Need-loop-again Inv-loop μ-loop
 loop-again c =
     let j = c .before .before .before .before in
     let p = j .before .before .before .before in
-    let a = p .before .before .before .before .before .args in
+    let a = p .before .before .before .before .before .before .args in
     let l = p .before .before .loop in
     let q = next-row (a .old .now) (l .at) (l .left) (p .before .loop-test .taken) (p .entry-at .ensures) in
     let es = entriesFrom (a .old .now) (l .at + 3) (l .left - 1) in
     let put = c .before .before .put-unlisted .ensures in (
       omega arith,
       omega arith,
-      omega (arith, put .0, at-most-two (a .plan .closing) (p .entry-at .result) es (j .if2 .closed)),
+      omega (arith, put .0, at-most-two (a .plan .closing) (p .entry-at .result) es (j .if2 .alike .closed)),
       writing-on (l .inv .3) _ _ _ (at-entry j) (put .0) (put .1),
       sym (rest-on (a .below) _ _ q (j .before .before .if1 .left)) ∙ l .inv .4,
-      λ k h e. is-known j .1 ∙ closes-alike (a .plan) (a .marks .now) _ k (sym (e ∙ is-known j .0)),
+      is-known j .0,
     )
 
 same-length-2 : tie.Need-same-length-2 Inv-loop μ-loop
@@ -126,7 +136,7 @@ same-length-2 c = search needs
 
 returns-2 : tie.Need-returns-2 Inv-loop μ-loop
 returns-2 c =
-    let a = c .before .before .before .before .args in
+    let a = c .before .before .before .before .before .args in
     let l = c .before .loop in
     let q = rows-none (a .old .now) (l .at) (l .left) (omega arith) in
     let none = gap-none (a .below) (closesBy (a .plan) (a .marks .now)) (a .plan .closing) q in (
@@ -145,11 +155,13 @@ pass-unlisted-spec =
     (tie.spec
     Inv-loop
     μ-loop
+    alike-anyway-requires
     loop-holds
     entry-at-requires
     same-length
     returns
-    closes-requires
+    covers-requires
+    alike-with-requires
     add-at
     sub-left
     put-unlisted-requires
