@@ -153,11 +153,10 @@ PAGE = """# Benchmarks
 
 ## Where the library is slower, and why
 
-- A first full notice: each of the three passes over its lines (checked, counted, written) reads every code again, and over an empty
-  book the longest match still counts down fifteen places for each line.
+- A first full notice: each of the two passes over its lines (checked, written) reads every code again, and over an empty book the
+  longest match still counts down fifteen places for each line.
 - A standing list: a line's fields go through an array on their way to the bytes, and the room for each line is tested again though the
   whole list is known to fit.
-- A replacement in a small book: the country of every entry is worked out in both passes over the book.
 
 ## What is measured
 
