@@ -11,9 +11,9 @@ use Rattle.varint.specs.declared.Number.{Number}
 use Rattle.varint.specs.declared.Number.the-variants.{Value, Refused}
 use Rattle.dial_code.specs.Digits.{digits}
 use Rattle.dial_code.proofs.Tests.{both}
-use Rattle.notice.specs.Field.{andThen, readRanged}
+use Rattle.notice.specs.Field.{andThen, inRange, readRanged}
 use Rattle.notice.specs.NoticeRule.{isCountryCode, countryField, readCountry, readNamed, readDated, readHeader}
-use Rattle.notice.specs.Leading.{inRange, countryBy, linesBy, datedBy, headerBy}
+use Rattle.notice.specs.Leading.{countryBy, linesBy, datedBy, headerBy}
 use Rattle.notice.specs.declared.HeaderRead.{HeaderRead}
 use Rattle.notice.specs.declared.HeaderRead.the-variants as header
 use Rattle.notice.proofs.Told.{either}

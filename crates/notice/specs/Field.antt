@@ -18,9 +18,12 @@ andThen (Refused e) f g = g e
 abbrev pub ranged : ℕ → ℕ → ℕ → ℕ → Number
 ranged least most n at = cond (leb least n && leb n most) (Value n at) (Refused outOfRange)
 
+abbrev pub inRange : Number → ℕ → ℕ → Number
+inRange read least most = andThen read (ranged least most) Refused
+
 -- The number at a position, from least to most.
 unfoldable pub readRanged : List ℕ → ℕ → ℕ → ℕ → Number
-readRanged s at least most = andThen (readNumber s at) (ranged least most) Refused
+readRanged s at least most = inRange (readNumber s at) least most
 
 bytes : List ℕ
 bytes = 1 ∷ 15 ∷ 16 ∷ 0 ∷ []

@@ -8,14 +8,10 @@ use Rattle.varint.specs.declared.Number.{Number}
 use Rattle.varint.specs.declared.Number.the-variants.{Value, Refused}
 use Rattle.dial_code.specs.Digits.{mostDigits}
 use Rattle.rate.specs.Time.{lastReceivedDay}
-use Rattle.notice.specs.Field.{andThen, ranged}
+use Rattle.notice.specs.Field.{andThen, inRange}
 use Rattle.notice.specs.NoticeRule.{mostLines, full, replacement, countryField, headerOf}
 use Rattle.notice.specs.declared.HeaderRead.{HeaderRead}
 use Rattle.notice.specs.declared.HeaderRead.the-variants as header
-
--- A number from least to most.
-abbrev pub inRange : Number → ℕ → ℕ → Number
-inRange read least most = andThen read (ranged least most) Refused
 
 -- A replacement's country, by its digit count and its value.
 abbrev pub countryBy : Number → Number → Number

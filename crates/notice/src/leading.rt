@@ -1,36 +1,18 @@
 // A notice's leading fields (document 01, "Notice layout"), read through a reader that gives its numbers one by one.
 ghost use mathlib.Core.Path.{_≡_};
 ghost use Rattle.notice.specs.NoticeRule.{readHeader};
-ghost use Rattle.notice.specs.Leading.{inRange, countryBy, linesBy, datedBy, headerBy};
+ghost use Rattle.notice.specs.Leading.{countryBy, linesBy, datedBy, headerBy};
 use crate::Header;
 use crate::HeaderRead;
 use rate::Day;
 use varint::Number;
 use varint::Reader;
 
-// A number from least to most.
-fn in_range(read: Number, least: u64, most: u64) -> Number
-    ensures { λ r. ⌜ r ≡ inRange read least most ⌝ }
-{
-    match read {
-        Number::Refused(e) => Number::Refused(e),
-        Number::Value(n, next) => {
-            if n < least {
-                return Number::Refused(refusal::OUT_OF_RANGE);
-            }
-            if most < n {
-                return Number::Refused(refusal::OUT_OF_RANGE);
-            }
-            Number::Value(n, next)
-        }
-    }
-}
-
 // A replacement's country, by its digit count and its value.
 fn country_by(count: Number, value: Number) -> Number
     ensures { λ r. ⌜ r ≡ countryBy count value ⌝ }
 {
-    match in_range(count, 1, dial_code::MOST_DIGITS) {
+    match crate::in_range(count, 1, dial_code::MOST_DIGITS) {
         Number::Refused(e) => Number::Refused(e),
         Number::Value(digits, _) => match value {
             Number::Refused(e) => Number::Refused(e),
@@ -43,7 +25,7 @@ fn country_by(count: Number, value: Number) -> Number
 fn lines_by(kind: u64, received: u64, country: u64, count: Number) -> HeaderRead
     ensures { λ r. ⌜ r ≡ linesBy kind received country count ⌝ }
 {
-    match in_range(count, 1, crate::MOST_LINES) {
+    match crate::in_range(count, 1, crate::MOST_LINES) {
         Number::Refused(e) => HeaderRead::Refused(e),
         Number::Value(lines, start) => HeaderRead::Leads(Header {
             kind,
@@ -59,7 +41,7 @@ fn lines_by(kind: u64, received: u64, country: u64, count: Number) -> HeaderRead
 fn dated_by(kind: u64, received: Number, third: Number, fourth: Number, fifth: Number) -> HeaderRead
     ensures { λ r. ⌜ r ≡ datedBy kind received third fourth fifth ⌝ }
 {
-    match in_range(received, 0, Day::LAST_RECEIVED.0) {
+    match crate::in_range(received, 0, Day::LAST_RECEIVED.0) {
         Number::Refused(e) => HeaderRead::Refused(e),
         Number::Value(day, _) => {
             if kind == crate::REPLACEMENT {

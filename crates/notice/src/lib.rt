@@ -3,7 +3,7 @@ ghost use mathlib.Core.Path.{_≡_};
 ghost use Prim.Native.Nat.{_≤_, _-_, min};
 ghost use lib.ListN.{length, drop};
 ghost use Rattle.dial_code.specs.CountryCode.{countryOfKey};
-ghost use Rattle.notice.specs.Field.{readRanged};
+ghost use Rattle.notice.specs.Field.{inRange, readRanged};
 ghost use Rattle.notice.specs.LineRule.{isCountry, codeField, readCode, readListed, readLine, lineAt};
 ghost use Rattle.notice.specs.NoticeRule.{countryField, readCountry, readNamed, readDated, readHeader, readLines, scanned, checkNotice};
 
@@ -90,11 +90,11 @@ pub enum Scan {
     Refused(u64),
 }
 
-// The number at a position, from least to most: 1, 2, then 4.
-pub fn read_ranged(s: &[u8], at: usize, least: u64, most: u64) -> Number
-    ensures { λ r. ⌜ r ≡ readRanged (now (s .entry)) at least most ⌝ }
+// A number from least to most, else 4.
+fn in_range(read: Number, least: u64, most: u64) -> Number
+    ensures { λ r. ⌜ r ≡ inRange read least most ⌝ }
 {
-    match varint::read_field(s, at) {
+    match read {
         Number::Refused(e) => Number::Refused(e),
         Number::Value(n, next) => {
             if n < least {
@@ -106,6 +106,13 @@ pub fn read_ranged(s: &[u8], at: usize, least: u64, most: u64) -> Number
             Number::Value(n, next)
         }
     }
+}
+
+// The number at a position, from least to most: 1, 2, then 4.
+pub fn read_ranged(s: &[u8], at: usize, least: u64, most: u64) -> Number
+    ensures { λ r. ⌜ r ≡ readRanged (now (s .entry)) at least most ⌝ }
+{
+    in_range(varint::read_field(s, at), least, most)
 }
 
 // Whether a key lies in a country, given by its country code's value.

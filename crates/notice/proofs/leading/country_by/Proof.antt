@@ -4,7 +4,7 @@ use mathlib.Core.Path.{_≡_, sym, _∙_}
 use borrow.Author.Needs.{needs}
 use Rattle.notice.proofs.Links.{on-value, on-refused}
 use Rattle.varint.specs.declared.Number.the-variants.{Value}
-use Rattle.notice.specs.Leading.{inRange}
+use Rattle.notice.specs.Field.{inRange}
 use Rattle.notice.proofs.LeadingLaws.{in-range-facts}
 use Rattle.notice.proofs.leading.country_by.Statement.{statement}
 use Rattle.notice.proofs.leading.country_by.Tie as tie

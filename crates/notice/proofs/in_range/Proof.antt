@@ -1,11 +1,11 @@
--- `notice::leading::in_range` meets its contract: a return for each side of the range. Assumes nothing.
+-- `notice::in_range` meets its contract: a return for each side of the range. Assumes nothing.
 use mathlib.Core.Path.{sym, _∙_}
 use borrow.Author.Needs.{needs}
 use borrow.Author.Tests.{le-leb, lt-leb}
 use Rattle.notice.proofs.Links.{on-value, on-refused, yes-case, no-case}
 use Rattle.dial_code.proofs.Tests.{and-left-true, and-left-false}
-use Rattle.notice.proofs.leading.in_range.Statement.{statement}
-use Rattle.notice.proofs.leading.in_range.Tie as tie
+use Rattle.notice.proofs.in_range.Statement.{statement}
+use Rattle.notice.proofs.in_range.Tie as tie
 
 enum-known-read : tie.Need-enum-known-read
 enum-known-read c = search needs

@@ -1,0 +1,63 @@
+#!/usr/bin/env python3
+"""Sizes of the crates, and how long each takes to check: the table in docs/PROOFS.md.
+
+sizes.py LOG writes the table, with the times that rt ci printed into LOG; sizes.py keeps the times that stand there;
+sizes.py --check fails where the sizes are not those of the files.
+"""
+import pathlib
+import re
+import sys
+
+ROOT = pathlib.Path(__file__).resolve().parent.parent
+PAGE = ROOT / "docs" / "PROOFS.md"
+TABLE = re.compile(r"\| crate \|.*\n(\|.*\n)+")
+HEAD = "| crate | rules | code and contracts | proofs | edits | check, s |\n|---|---:|---:|---:|---:|---:|\n"
+
+
+def said(text, comment):
+    """The lines of a text that are not blank, a comment or an import."""
+    lines = (line.strip() for line in text.splitlines())
+    return [line for line in lines if line and not line.startswith(comment) and not re.match(r"(ghost |pub )?use ", line)]
+
+
+def rules(text):
+    """The public declarations of a file of rules: the others are its closed examples."""
+    parts = (said(part, "--") for part in re.split(r"\n\s*\n", text))
+    return sum(len(part) for part in parts if part and re.match(r"((unfoldable|abbrev) )?pub (?!mod )", part[0]))
+
+
+def texts(crate, folder, ending):
+    return [path.read_text() for path in sorted((ROOT / "crates" / crate / folder).rglob("*" + ending))]
+
+
+def sizes(crate):
+    return (
+        sum(rules(text) for text in texts(crate, "specs", ".antt")),
+        sum(len(said(text, "//")) for text in texts(crate, "src", ".rt")),
+        sum(len(said(text, "--")) for text in texts(crate, "proofs", ".antt")),
+        len(texts(crate, "must-fail", ".edit")),
+    )
+
+
+def table(seconds):
+    crates = re.findall(r"^(\w+):", (ROOT / "crates.txt").read_text(), re.M)
+    rows = [(f"`{crate}`", *sizes(crate), seconds[crate]) for crate in crates]
+    rows.append(("all", *(sum(column) for column in list(zip(*rows))[1:])))
+    return HEAD + "".join(f"| {row[0]} | " + " | ".join(f"{n:,}" for n in row[1:]) + " |\n" for row in rows)
+
+
+def main():
+    page = PAGE.read_text()
+    stands = TABLE.search(page).group(0)
+    seconds = {crate: int(n) for crate, n in re.findall(r"^\| `(\w+)` .* (\d+) \|$", stands, re.M)}
+    if sys.argv[1:] == ["--check"]:
+        if stands != table(seconds):
+            sys.exit("the sizes in docs/PROOFS.md are not those of the files: run tests/sizes.py")
+        print("sizes: as the files are")
+        return
+    for log in sys.argv[1:]:
+        seconds.update((crate, int(n)) for crate, n in re.findall(r"^rt: (\w+) proved \((\d+) s\)", pathlib.Path(log).read_text(), re.M))
+    PAGE.write_text(page.replace(stands, table(seconds)))
+
+
+main()
