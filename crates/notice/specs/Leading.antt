@@ -5,7 +5,7 @@ use Prim.Native.Nat.{ℕ}
 use lib.Dec.{eqb, leb}
 use Rattle.refusal.specs.Refusal.{unknownKind}
 use Rattle.varint.specs.declared.Number.{Number}
-use Rattle.varint.specs.declared.Number.the-variants.{Value, Refused}
+use Rattle.varint.specs.declared.Number.the-variants.{Refused}
 use Rattle.dial_code.specs.Digits.{mostDigits}
 use Rattle.rate.specs.Time.{lastReceivedDay}
 use Rattle.notice.specs.Field.{andThen, inRange}
