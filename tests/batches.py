@@ -16,7 +16,6 @@ tests/batch_cases has the records and the cases.
 import collections
 import subprocess
 import sys
-import time
 
 sys.dont_write_bytecode = True
 
@@ -28,7 +27,7 @@ from batch_cases.batch_edges import BATCH_EDGES  # noqa: E402
 from batch_cases.list_edges import list_edges  # noqa: E402
 from batch_cases.random_batches import Chance, random_script  # noqa: E402
 from batch_cases.row_edges import row_edges  # noqa: E402
-from batch_cases.script import MOST_BYTES, Script, scripted  # noqa: E402
+from batch_cases.script import MOST_BYTES, Script  # noqa: E402
 from history_cases.unsound import UNSOUND  # noqa: E402
 from rating import Sent  # noqa: E402
 
@@ -38,21 +37,17 @@ EDGES = [row_edges, *BATCH_EDGES, list_edges]
 # The committed records, and what they cover.
 
 
-def scripts():
-    """The edge cases, then random records as long as they fit."""
-    made = []
+def edge_scripts():
     for tell in EDGES:
         script = Script()
         tell(script)
-        made.append(script)
-    size = sum(len(script.stdin()) for script in made)
+        yield script
+
+
+def scripts():
+    """The edge cases, then random records as long as they fit."""
     chance = Chance(1)
-    while True:
-        script = random_script(chance, steps=12, most=6)
-        size += len(script.stdin())
-        if size > MOST_BYTES:
-            return made
-        made.append(script)
+    return vectors.filled(edge_scripts(), lambda: random_script(chance, steps=12, most=6), MOST_BYTES)
 
 
 def demanded():
@@ -68,24 +63,8 @@ def demanded():
         yield from (("batch", number, field, where) for number in (1, 2) for where in ("first call", "later call"))
 
 
-def counted(made):
-    return sum((script.met for script in made), collections.Counter())
-
-
 def make():
-    """The input and the expected output."""
-    made = scripts()
-    missing = set(demanded()) - set(counted(made))
-    assert not missing, missing
-    stdin = b"".join(script.stdin() for script in made)
-    assert len(stdin) <= MOST_BYTES, len(stdin)
-    return stdin, b"".join(script.stdout() for script in made)
-
-
-def say(records, met):
-    print(f"{records} records")
-    for what, count in sorted(met.items(), key=lambda pair: list(map(str, pair[0]))):
-        print(f"{count:9}  {', '.join(map(str, what))}")
+    return vectors.joined(scripts(), demanded(), MOST_BYTES)
 
 
 # New random records through the compiled program.
@@ -93,10 +72,10 @@ def say(records, met):
 
 def save(script, written):
     """The first record that differs, with the book before it."""
-    lines = written.decode().splitlines()
+    lines = written.decode(errors="replace").splitlines()
     at = next(i for i, line in enumerate([*script.lines, None]) if i >= len(lines) or line != lines[i])
     kept = [step for step in script.steps[:at] if step[0] in ("book", "poke", "cut")]
-    cut = scripted(kept + script.steps[at : at + 1])
+    cut = Script.of(kept + script.steps[at : at + 1])
     folder = vectors.ROOT / "target" / "failing-batch"
     folder.mkdir(parents=True, exist_ok=True)
     (folder / "stdin").write_bytes(cut.stdin())
@@ -107,13 +86,9 @@ def save(script, written):
 
 def run_fresh(seconds, seed, program):
     chance = Chance(seed)
-    end = time.monotonic() + seconds
     records = 0
     met = collections.Counter()
-    while time.monotonic() < end:
-        script = random_script(chance, steps=60, most=40, large=15)
-        if len(script.stdin()) > MOST_BYTES:
-            continue
+    for script in vectors.timed(lambda: random_script(chance, steps=60, most=40, large=15), seconds, MOST_BYTES):
         records += len(script.records)
         met += script.met
         run = subprocess.run([program], input=script.stdin(), capture_output=True)
@@ -121,13 +96,13 @@ def run_fresh(seconds, seed, program):
             print(f"a record of seed {seed} differs: see {save(script, run.stdout)}")
             return 1
     print(f"no difference with seed {seed}")
-    say(records, met)
+    vectors.say(f"{records} records", met)
     return 0
 
 
 def say_counts():
     made = scripts()
-    say(sum(len(script.records) for script in made), counted(made))
+    vectors.say(f"{sum(len(script.records) for script in made)} records", vectors.counted(made))
 
 
 if __name__ == "__main__":

@@ -6,23 +6,13 @@ cd "$(dirname "$0")/.."
 mkdir -p target
 log=target/embedding.log
 
-# need COMMAND PACKAGE..: installs Debian packages where the command is missing.
-need() {
-    command -v "$1" >/dev/null 2>&1 && return
-    shift
-    { apt-get update -qq && DEBIAN_FRONTEND=noninteractive apt-get install -y -qq "$@"; } >/dev/null
-}
-
 fail() {
     cat "$log"
     echo "embedding: $1"
     exit 1
 }
 
-need cc gcc libc6-dev
-need g++ g++
-need cargo cargo rustc
-need rustc rustc
+tools/need cc g++ cargo rustc
 
 ./example >target/month.stdout 2>"$log" || { cat target/month.stdout; fail "./example fails"; }
 diff examples/c/month.stdout target/month.stdout >"$log" || fail "./example does not print examples/c/month.stdout"

@@ -16,7 +16,6 @@ tests/history_cases has the replay and the cases.
 import collections
 import subprocess
 import sys
-import time
 
 sys.dont_write_bytecode = True
 
@@ -29,7 +28,7 @@ import rate_book as book  # noqa: E402
 from history_cases.chance import Chance  # noqa: E402
 from history_cases.edges import edge_histories  # noqa: E402
 from history_cases.random_histories import random_history  # noqa: E402
-from history_cases.replay import replayed  # noqa: E402
+from history_cases.replay import Replay  # noqa: E402
 from history_cases.unsound import UNSOUND  # noqa: E402
 from notice import FULL, PARTIAL, UPDATE  # noqa: E402
 
@@ -46,15 +45,8 @@ MOST_BYTES = 65_536
 
 def histories():
     """The edge cases, then random histories as long as they fit."""
-    made = list(edge_histories())
-    size = sum(len(replay.stdin()) for replay in made)
     chance = Chance(1)
-    while True:
-        replay = random_history(chance, steps=16, numbers=5, days=8)
-        size += len(replay.stdin())
-        if size > MOST_BYTES:
-            return made
-        made.append(replay)
+    return vectors.filled(edge_histories(), lambda: random_history(chance, steps=16, numbers=5, days=8), MOST_BYTES)
 
 
 def demanded():
@@ -71,24 +63,8 @@ def demanded():
     yield ("effect", "replacement")
 
 
-def counted(made):
-    return sum((replay.met for replay in made), collections.Counter())
-
-
 def make():
-    """The input and the expected output."""
-    made = histories()
-    missing = set(demanded()) - set(counted(made))
-    assert not missing, missing
-    stdin = b"".join(replay.stdin() for replay in made)
-    assert len(stdin) <= MOST_BYTES, len(stdin)
-    return stdin, b"".join(replay.stdout() for replay in made)
-
-
-def say(made, records, met):
-    print(f"{made} histories, {records} records")
-    for what, count in sorted(met.items(), key=lambda pair: list(map(str, pair[0]))):
-        print(f"{count:9}  {', '.join(map(str, what))}")
+    return vectors.joined(histories(), demanded(), MOST_BYTES)
 
 
 # New random histories through the compiled program.
@@ -106,7 +82,7 @@ def shorter(program, replay):
     while at > 0:
         at -= 1
         try:
-            tried = replayed(replay.steps[:at] + replay.steps[at + 1 :])
+            tried = Replay.of(replay.steps[:at] + replay.steps[at + 1 :])
         except Exception:  # without that step the others are no history
             continue
         if differs(program, tried) is not None:
@@ -127,14 +103,10 @@ def save(program, replay):
 
 def run_fresh(seconds, seed, program):
     chance = Chance(seed)
-    end = time.monotonic() + seconds
     made = 0
     records = 0
     met = collections.Counter()
-    while time.monotonic() < end:
-        replay = random_history(chance, steps=24, numbers=12, days=20, large=10)
-        if len(replay.stdin()) > MOST_BYTES:
-            continue
+    for replay in vectors.timed(lambda: random_history(chance, steps=24, numbers=12, days=20, large=10), seconds, MOST_BYTES):
         made += 1
         records += len(replay.records)
         met += replay.met
@@ -142,13 +114,14 @@ def run_fresh(seconds, seed, program):
             print(f"history {made} of seed {seed} differs: see {save(program, shorter(program, replay))}")
             return 1
     print(f"no difference with seed {seed}")
-    say(made, records, met)
+    vectors.say(f"{made} histories, {records} records", met)
     return 0
 
 
 def say_counts():
     made = histories()
-    say(len(made), sum(len(replay.records) for replay in made), counted(made))
+    records = sum(len(replay.records) for replay in made)
+    vectors.say(f"{len(made)} histories, {records} records", vectors.counted(made))
 
 
 if __name__ == "__main__":

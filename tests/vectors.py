@@ -1,6 +1,8 @@
-"""What the makers of vectors share: random choices, and the files of a crate written or checked. Nothing to run here."""
+"""What the makers of vectors share: random choices, scripts of records, and the files of a crate written or checked. Nothing to
+run here."""
 
 import argparse
+import collections
 import random
 import sys
 import time
@@ -28,6 +30,79 @@ class Chance:
 
     def pick(self, choices):
         return choices[self.below(len(choices))]
+
+
+class Script:
+    """Records for a program, and what it must print.
+
+    `steps` are the calls of a subclass's methods, `records` their bytes, `lines` the expected output and `met` what they cover.
+    """
+
+    def __init__(self):
+        self.steps = []
+        self.records = []
+        self.lines = []
+        self.met = collections.Counter()
+
+    @classmethod
+    def of(cls, steps):
+        """The steps of a script, done anew."""
+        script = cls()
+        for name, *arguments in steps:
+            getattr(script, name)(*arguments)
+        return script
+
+    def put(self, step, kind, m, n, rest, numbers):
+        """A record, of a kind, two numbers of two bytes and the rest; and the numbers of its line."""
+        self.steps.append(step)
+        self.records.append(bytes([kind]) + m.to_bytes(2, "little") + n.to_bytes(2, "little") + rest)
+        self.lines.append(" ".join(map(str, [kind, *numbers])))
+
+    def stdin(self):
+        return b"".join(self.records)
+
+    def stdout(self):
+        return "".join(line + "\n" for line in self.lines).encode()
+
+
+def filled(edges, another, most):
+    """The scripts of the edge cases, then random ones from `another` as long as all fit in so many bytes."""
+    made = list(edges)
+    size = sum(len(script.stdin()) for script in made)
+    while True:
+        script = another()
+        size += len(script.stdin())
+        if size > most:
+            return made
+        made.append(script)
+
+
+def timed(another, seconds, most):
+    """Random scripts from `another` that fit in so many bytes, for so many seconds."""
+    end = time.monotonic() + seconds
+    while time.monotonic() < end:
+        script = another()
+        if len(script.stdin()) <= most:
+            yield script
+
+
+def counted(made):
+    return sum((script.met for script in made), collections.Counter())
+
+
+def joined(made, demanded, most):
+    """The input and the expected output of scripts, which cover what is demanded and fit in so many bytes."""
+    missing = set(demanded) - set(counted(made))
+    assert not missing, missing
+    stdin = b"".join(script.stdin() for script in made)
+    assert len(stdin) <= most, len(stdin)
+    return stdin, b"".join(script.stdout() for script in made)
+
+
+def say(what, met):
+    print(what)
+    for case, count in sorted(met.items(), key=lambda pair: list(map(str, pair[0]))):
+        print(f"{count:9}  {', '.join(map(str, case))}")
 
 
 def run(script, crate, make, usage):

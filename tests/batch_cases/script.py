@@ -7,6 +7,7 @@ import machine
 import notice
 import rate_book as book
 import rating
+import vectors
 from history_cases.replay import checksum
 
 MOST_BYTES = 131_072
@@ -26,24 +27,16 @@ def long(number):
     return number.to_bytes(8, "little")
 
 
-class Script:
-    """Records for crates/batch_vectors, and what it must print. `steps` are the calls of the methods that made them."""
+class Script(vectors.Script):
+    """Records for crates/batch_vectors, and what it must print."""
 
     def __init__(self):
+        super().__init__()
         self.array = [0] * WORDS
         self.length = 0
-        self.steps = []
-        self.records = []
-        self.lines = []
-        self.met = collections.Counter()
 
     def words(self):
         return self.array[: self.length]
-
-    def put(self, step, kind, m, n, rest, numbers):
-        self.steps.append(step)
-        self.records.append(bytes([kind]) + m.to_bytes(2, "little") + n.to_bytes(2, "little") + rest)
-        self.lines.append(" ".join(map(str, [kind, *numbers])))
 
     def put_book(self, step, kind, m, n, rest):
         self.put(step, kind, m, n, rest, [machine.book_refusal(self.words())])
@@ -112,17 +105,3 @@ class Script:
             read = machine.Read(words)
             rows = {sent: rating.row(read, sent).refusal for sent in set(calls)}
             self.met += collections.Counter(("row", rows[sent]) for sent in calls)
-
-    def stdin(self):
-        return b"".join(self.records)
-
-    def stdout(self):
-        return "".join(line + "\n" for line in self.lines).encode()
-
-
-def scripted(steps):
-    """The steps of a script, done anew."""
-    script = Script()
-    for name, *arguments in steps:
-        getattr(script, name)(*arguments)
-    return script

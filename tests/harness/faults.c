@@ -72,45 +72,39 @@ uint64_t faulty_rate_book_words(uint64_t entries) {
 
 uint64_t faulty_rate_book_fresh(uint64_t *book, size_t words, uint64_t period) {
     uint64_t answer = rate_book_fresh(book, words, period);
-    struct slice slices[] = {{book, 8 * words}};
-    fault(FRESH, &answer, slices);
+    fault(FRESH, &answer, (struct slice[]){{book, 8 * words}});
     return answer;
 }
 
 struct four faulty_rate_book_apply(const uint64_t *old, size_t words, const uint8_t *notice, size_t bytes, uint64_t *new,
                                    size_t room) {
     struct four answer = rate_book_apply(old, words, notice, bytes, new, room);
-    struct slice slices[] = {{old, 8 * words}, {notice, bytes}, {new, 8 * room}};
-    fault(APPLY, answer.n, slices);
+    fault(APPLY, answer.n, (struct slice[]){{old, 8 * words}, {notice, bytes}, {new, 8 * room}});
     return answer;
 }
 
 struct six faulty_rate_book_lookup(const uint64_t *book, size_t words, const uint8_t *number, size_t digits, uint64_t day) {
     struct six answer = rate_book_lookup(book, words, number, digits, day);
-    struct slice slices[] = {{book, 8 * words}, {number, digits}};
-    fault(LOOKUP, answer.n, slices);
+    fault(LOOKUP, answer.n, (struct slice[]){{book, 8 * words}, {number, digits}});
     return answer;
 }
 
 struct four faulty_rate_book_rate_call(const uint64_t *book, size_t words, const uint8_t *number, size_t digits, uint64_t moment,
                                        uint64_t duration) {
     struct four answer = rate_book_rate_call(book, words, number, digits, moment, duration);
-    struct slice slices[] = {{book, 8 * words}, {number, digits}};
-    fault(RATE_CALL, answer.n, slices);
+    fault(RATE_CALL, answer.n, (struct slice[]){{book, 8 * words}, {number, digits}});
     return answer;
 }
 
 struct four faulty_rate_book_rate_batch(const uint64_t *book, size_t words, const uint8_t *batch, size_t bytes, uint64_t *rows,
                                         size_t room) {
     struct four answer = rate_book_rate_batch(book, words, batch, bytes, rows, room);
-    struct slice slices[] = {{book, 8 * words}, {batch, bytes}, {rows, 8 * room}};
-    fault(RATE_BATCH, answer.n, slices);
+    fault(RATE_BATCH, answer.n, (struct slice[]){{book, 8 * words}, {batch, bytes}, {rows, 8 * room}});
     return answer;
 }
 
 struct two faulty_rate_book_list(const uint64_t *book, size_t words, uint64_t day, uint8_t *out, size_t room) {
     struct two answer = rate_book_list(book, words, day, out, room);
-    struct slice slices[] = {{book, 8 * words}, {out, room}};
-    fault(LIST, answer.n, slices);
+    fault(LIST, answer.n, (struct slice[]){{book, 8 * words}, {out, room}});
     return answer;
 }

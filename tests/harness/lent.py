@@ -10,7 +10,6 @@ import array
 import ctypes
 import mmap
 import random
-import shutil
 import signal
 import struct
 import subprocess
@@ -31,14 +30,6 @@ libc.mprotect.argtypes = [ctypes.c_void_p, ctypes.c_size_t, ctypes.c_int]
 
 
 # Building.
-
-
-def command(name, package):
-    """A command, installed where it is missing (Debian)."""
-    if shutil.which(name) is None:
-        for words in (["update", "-qq"], ["install", "-y", "-qq", package, "libc6-dev"]):
-            subprocess.run(["apt-get", *words], check=True, stdout=subprocess.DEVNULL)
-    return name
 
 
 def archive():
@@ -63,8 +54,9 @@ def shared_object(name, *sources):
     made = folder / name
     if not made.exists() or made.stat().st_mtime < max(path.stat().st_mtime for path in (whole, *sources)):
         linked = ["-Wl,--whole-archive", str(whole), "-Wl,--no-whole-archive"]
-        compiler = command("cc", "gcc")
-        subprocess.run([compiler, "-O1", "-fPIC", "-shared", "-o", str(made), *map(str, sources), *linked], check=True)
+        if subprocess.run([ROOT / "tools" / "need", "cc"]).returncode != 0:
+            raise SystemExit(1)
+        subprocess.run(["cc", "-O1", "-fPIC", "-shared", "-o", str(made), *map(str, sources), *linked], check=True)
     return made
 
 

@@ -1,11 +1,11 @@
 """Histories replayed by the reference: what crates/replay is given, and what it must print."""
 
-import collections
 import functools
 
 import machine
 import notice
 import rate_book as book
+import vectors
 from notice import REPLACEMENT
 
 WORDS = 1024
@@ -28,23 +28,20 @@ def room(entries, more=0):
     return 4 + 3 * entries + more
 
 
-class Replay:
+class Replay(vectors.Script):
     """What crates/replay does with records, worked out by the reference.
 
-    `steps` are the calls of the methods below, `records` their bytes and `lines` the expected output. `machine` is the plain
-    machine that was told the same applies, if there is one, and `agrees` says whether the current book is the machine's.
+    `machine` is the plain machine that was told the same applies, if there is one, and `agrees` says whether the current book is
+    the machine's.
     """
 
     def __init__(self):
+        super().__init__()
         self.arrays = [[0] * WORDS, [0] * WORDS]
         self.turned = 0
         self.length = 0
         self.machine = None
         self.agrees = False
-        self.steps = []
-        self.records = []
-        self.lines = []
-        self.met = collections.Counter()
 
     def words(self):
         return self.arrays[self.turned][: self.length]
@@ -58,11 +55,6 @@ class Replay:
         if self.machine is None or self.length < room(len(self.machine.change_days())):
             return False
         return self.machine.words(self.length) == self.words()
-
-    def put(self, step, kind, m, n, rest, numbers):
-        self.steps.append(step)
-        self.records.append(bytes([kind]) + m.to_bytes(2, "little") + n.to_bytes(2, "little") + rest)
-        self.lines.append(" ".join(map(str, [kind, *numbers])))
 
     def fresh(self, length, period):
         array = list(PATTERN)
@@ -165,20 +157,6 @@ class Replay:
         refusal = machine.book_refusal(words)
         self.met["book", refusal, machine.unsound(words) if refusal == 21 else None] += 1
         self.put(step, kind, m, 0, rest, [refusal])
-
-    def stdin(self):
-        return b"".join(self.records)
-
-    def stdout(self):
-        return "".join(line + "\n" for line in self.lines).encode()
-
-
-def replayed(steps):
-    """The steps of a replay, done anew."""
-    replay = Replay()
-    for name, *arguments in steps:
-        getattr(replay, name)(*arguments)
-    return replay
 
 
 def needed(replay, data):

@@ -2,26 +2,7 @@
 
 import rate_book as book
 import vectors
-from leaf_cases.records import (
-    END,
-    KEYS_END,
-    RAW_BYTES,
-    charge,
-    code_key,
-    country_of,
-    country_of_key,
-    day,
-    is_code_key,
-    moment,
-    number_key,
-    number_size,
-    offer_word,
-    prefix_key,
-    rate_new,
-    read_number,
-    word_offer,
-    write_number,
-)
+from leaf_cases import records
 
 
 class Chance(vectors.Chance):
@@ -33,8 +14,8 @@ class Chance(vectors.Chance):
         if kind == 0:
             return book.key(self.digits())
         if kind == 1:
-            return (book.key(self.digits()) + self.below(11) * 11 ** self.below(15)) % KEYS_END
-        return self.number() % KEYS_END if kind == 2 else self.number()
+            return (book.key(self.digits()) + self.below(11) * 11 ** self.below(15)) % records.KEYS_END
+        return self.number() % records.KEYS_END if kind == 2 else self.number()
 
     def offer(self):
         kind = self.below(8)
@@ -44,7 +25,7 @@ class Chance(vectors.Chance):
 
     def data(self):
         """Bytes in which numbers of some groups are likely."""
-        return bytes(self.below(128) + (128 if self.below(4) else 0) for _ in range(self.below(RAW_BYTES + 1)))
+        return bytes(self.below(128) + (128 if self.below(4) else 0) for _ in range(self.below(records.RAW_BYTES + 1)))
 
     def dialled(self):
         """ASCII digits, now and then with another byte among them."""
@@ -56,25 +37,25 @@ class Chance(vectors.Chance):
 
 def random_records(chance):
     while True:
-        yield read_number(chance.data(), chance.below(12))
+        yield records.read_number(chance.data(), chance.below(12))
         written = book.write_varint(chance.number() >> 1)
-        yield read_number(chance.data()[:13] + written, chance.below(14))
-        yield number_size(chance.number())
-        yield write_number(chance.number() >> 1, chance.below(14), chance.below(8))
+        yield records.read_number(chance.data()[:13] + written, chance.below(14))
+        yield records.number_size(chance.number())
+        yield records.write_number(chance.number() >> 1, chance.below(14), chance.below(8))
         count = 1 + chance.below(15)
-        yield code_key(count, chance.below(10**count))
-        yield code_key(chance.below(20), chance.number())
-        yield number_key(chance.dialled())
-        yield prefix_key(book.key(chance.digits()), chance.below(17))
-        yield prefix_key(chance.word(), chance.below(17))
-        yield country_of_key(chance.word())
-        yield country_of(count, chance.below(10**count))
-        yield is_code_key(chance.word())
-        yield rate_new(chance.below(10**10 + 1), chance.below(13))
-        yield rate_new(chance.number(), chance.below(16))
-        yield offer_word(chance.offer())
-        yield word_offer(book.offer_word(chance.offer()) + chance.below(3) * chance.below(END >> 8))
-        yield day(chance.below(70_000))
-        yield moment(chance.below(book.END_OF_MOMENTS))
-        yield charge(chance.offer(), chance.below(604_801))
-        yield charge(chance.offer(), chance.number())
+        yield records.code_key(count, chance.below(10**count))
+        yield records.code_key(chance.below(20), chance.number())
+        yield records.number_key(chance.dialled())
+        yield records.prefix_key(book.key(chance.digits()), chance.below(17))
+        yield records.prefix_key(chance.word(), chance.below(17))
+        yield records.country_of_key(chance.word())
+        yield records.country_of(count, chance.below(10**count))
+        yield records.is_code_key(chance.word())
+        yield records.rate_new(chance.below(10**10 + 1), chance.below(13))
+        yield records.rate_new(chance.number(), chance.below(16))
+        yield records.offer_word(chance.offer())
+        yield records.word_offer(book.offer_word(chance.offer()) + chance.below(3) * chance.below(records.END >> 8))
+        yield records.day(chance.below(70_000))
+        yield records.moment(chance.below(book.END_OF_MOMENTS))
+        yield records.charge(chance.offer(), chance.below(604_801))
+        yield records.charge(chance.offer(), chance.number())
