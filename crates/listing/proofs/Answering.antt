@@ -1,7 +1,7 @@
 -- The answer and the bytes of a list by the tests of the code, and its length. Assumes nothing.
 use mathlib.Core.Path.{_≡_, refl, ap, ap₂, sym, _∙_}
 use mathlib.Core.Bool.{Bool, true, false, cond}
-use mathlib.Core.List.{List, _++_}
+use mathlib.Core.List.{List, [], _++_}
 use Prim.Native.Nat.{ℕ, _+_, _*_, _≤_, _<_}
 use native.Mathlib.Omega.{arith}
 use borrow.Author.Tests.{eq-eqb, ne-eqb, eqb-true, eqb-false, le-leb, lt-leb, leb-true}
@@ -26,10 +26,8 @@ use Rattle.book.specs.Layout.{entriesOf}
 use Rattle.book.specs.Soundness.{sound}
 use Rattle.book.specs.Answers.{bookRefusal}
 use Rattle.listing.specs.List.{standingLines, standingNotice, listOf, listRefusal, listed, listAnswer, listBytes}
-use Rattle.listing.specs.Pass.{extentOf}
 use Rattle.listing.specs.declared.Listed.{Listed}
-use Rattle.listing.specs.declared.Extent.{Extent}
-use Rattle.listing.proofs.Sizes.{bytes-few}
+use Rattle.listing.proofs.Sizes.{mostLine, none-few, one-few}
 use Rattle.listing.proofs.Turns.{written, few}
 use Rattle.listing.proofs.Validity.{list-valid}
 
@@ -121,15 +119,6 @@ module _ (ws : List ℕ) (day : Day) where
         let z : 0 + length (listOf ws day) ≡ length (listOf ws day) = omega arith in
         (ap (listed 0) p ∙ sym (rw t), g ∙ sets-eq (listOf ws day) out 0 (omega arith) ∙ rw z (sym (rw t)))
 
--- The number of lines, as the pass counts them.
-module _ (ws : List ℕ) (day : ℕ) {x : Extent} (p : x ≡ extentOf (standingLines (entriesOf ws) day)) where
-  pub counted : x .lines ≡ length (standingLines (entriesOf ws) day)
-  unfolding extentOf
-  counted = ap (λ (y : Extent). y .lines) p
-
-  pub some-lines : (x .lines ≡ 0 → ⊥) → 0 < length (standingLines (entriesOf ws) day)
-  some-lines n = positive (λ z. n (counted ∙ z))
-
 -- the bytes before the lines
 abbrev pub header : List ℕ → Day → List ℕ
 header ws day = encodeHeader full (day .0) 0 (length (standingLines (entriesOf ws) (day .0)))
@@ -152,27 +141,32 @@ module _ (ws : List ℕ) (day : Day) (s : sound ws ≡ true) (d : isReceivedDay 
     length-list : length (listOf ws day) ≡ length (header ws day) + length (encodeLines lines)
     length-list = ap length list-is ∙ length-append (header ws day) (encodeLines lines)
 
-    header-few : length (header ws day) ≤ 27
+    header-few : length (header ws day) ≤ 7
     unfolding headerFields lines
     header-few =
         omega (
           arith,
           ap length (header-bytes full (day .0) 0 (length lines)),
-          bytes-few (headerFields full (day .0) 0 (length lines)),
+          one-few 1 full _ (omega arith) (omega arith)
+              (one-few 3 (day .0) _ (omega arith) (omega (arith, leads .received-most))
+              (one-few 3 (length lines) [] (omega arith) (omega (arith, leads .few-lines)) none-few)),
         )
 
-    -- Its length as the code works it out, which fits a word.
-    pub list-size : {h : ℕ} {x : Extent} → x ≡ extentOf (standingLines (entriesOf ws) (day .0))
-        → h ≡ sizeOfAll (headerFields full (day .0) 0 (x .lines))
-        → (h + x .bytes ≡ length (listOf ws day)) × (h + x .bytes ≤ 27 + 72 * 65535)
-    unfolding extentOf lines
-    list-size {h} {x} p q =
+    -- It takes at most 21 bytes a line, and 7 before them.
+    pub list-most : length (listOf ws day) ≤ 7 + mostLine * length (standingLines (entriesOf ws) (day .0))
+    unfolding lines
+    list-most = omega (arith, length-list, header-few, few ws (day .0) s .1)
+
+    -- Its length as the code works it out.
+    pub list-size : {k h : ℕ} → k ≡ length (standingLines (entriesOf ws) (day .0)) → h ≡ sizeOfAll (headerFields full (day .0) 0 k)
+        → (h ≤ 7) × (h + length (encodeLines (standingLines (entriesOf ws) (day .0))) ≡ length (listOf ws day))
+    unfolding lines
+    list-size {k} {h} p q =
         let a : h ≡ length (header ws day) =
         q
-        ∙ ap (λ (y : Extent). sizeOfAll (headerFields full (day .0) 0 (y .lines))) p
+        ∙ ap (λ (i : ℕ). sizeOfAll (headerFields full (day .0) 0 i)) p
         ∙ header-sized full (day .0) 0 (length lines) leads in
-        let b : x .bytes ≡ length (encodeLines lines) = ap (λ (y : Extent). y .bytes) p in
-        (omega (arith, length-list), omega (arith, header-few, few ws (day .0) s .1))
+        (omega (arith, header-few), omega (arith, length-list))
 
     -- Both parts written one after the other.
     module _ (out : List ℕ) (u : length (listOf ws day) ≤ length out) where
@@ -194,11 +188,15 @@ module _ (ws : List ℕ) (day : Day) (s : sound ws ≡ true) (d : isReceivedDay 
       unfolding lines
       lines-fit p q = omega (arith, length-list, ap length q, length-sets out 0 (header ws day))
 
-      pub all-written : {at : ℕ} {m l : List ℕ} → at ≡ 0 + length (header ws day) → m ≡ sets out 0 (header ws day)
-          → l ≡ sets m at (encodeLines (standingLines (entriesOf ws) (day .0))) → l ≡ sets out 0 (listOf ws day)
+      pub all-written : {at end : ℕ} {m l : List ℕ} → at ≡ 0 + length (header ws day) → m ≡ sets out 0 (header ws day)
+          → end ≡ at + length (encodeLines (standingLines (entriesOf ws) (day .0)))
+          → l ≡ sets m at (encodeLines (standingLines (entriesOf ws) (day .0)))
+          → (end ≡ length (listOf ws day)) × (l ≡ sets out 0 (listOf ws day))
       unfolding lines
-      all-written p q f =
-          f
-          ∙ ap₂ (λ (m : List ℕ) (at : ℕ). sets m at (encodeLines lines)) q p
-          ∙ sets-append out 0 (header ws day) (encodeLines lines)
-          ∙ ap (sets out 0) (sym list-is)
+      all-written p q e f = (
+        omega (arith, length-list),
+        f
+            ∙ ap₂ (λ (m : List ℕ) (at : ℕ). sets m at (encodeLines lines)) q p
+            ∙ sets-append out 0 (header ws day) (encodeLines lines)
+            ∙ ap (sets out 0) (sym list-is),
+      )

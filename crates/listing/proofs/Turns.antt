@@ -1,4 +1,5 @@
--- The pass over a book's words: one entry's test, one turn of measuring and of writing, and the whole. Assumes nothing.
+-- The pass over a book's words: one entry's test, one turn of counting, of adding up sizes and of writing, and the whole.
+-- Assumes nothing.
 use mathlib.Core.Path.{_≡_, refl, ap, sym, _∙_}
 use mathlib.Core.Bool.{Bool, true, false, not}
 use mathlib.Core.List.{List, [], _∷_, _++_}
@@ -8,7 +9,7 @@ use borrow.Author.Tests.{le-leb, lt-leb, leb-true, leb-false, lt-ltb, le-ltb, eq
 use lib.Dec.{leb, ltb}
 use lib.ListN.{length, length-append}
 use lib.Seq.{sets, sets-eq, length-sets}
-use Rattle.varint.specs.Several.{encodeAll, encodableAll, answerAll, leavesAll}
+use Rattle.varint.specs.Several.{encodeAll, encodableAll, sizeOfAll, answerAll, leavesAll}
 use Rattle.varint.specs.declared.Written.{Written}
 use Rattle.varint.specs.declared.Written.the-variants.{UpTo, NoRoom, TooLarge}
 use Rattle.varint.proofs.Several.{writes, sets-append}
@@ -16,7 +17,7 @@ use Rattle.dial_code.proofs.Tests.{and-left-true, and-left-false, and-right-fal
 use Rattle.rate.specs.OfferWord.{offerOf}
 use Rattle.rate.specs.declared.Stored.{Stored}
 use Rattle.notice.specs.LineRule.{lineOf}
-use Rattle.notice.specs.Layout.{lineFields, encodeLine, encodeLines}
+use Rattle.notice.specs.Layout.{lineFields, encodeLines}
 use Rattle.notice.specs.declared.Line.{Line}
 use Rattle.notice.proofs.LayoutLaws.{line-bytes, lines-nil, lines-append}
 use Rattle.book.specs.Layout.{headerWords, entryWords, mostEntries, countOf, entryAt, entriesFrom, entriesOf}
@@ -27,10 +28,9 @@ use Rattle.book.proofs.Rows.{of-book, rows-none, rows-step, length-entries}
 use Rattle.book.proofs.Headers.{sound-book}
 use Rattle.book.proofs.SoundLists.{entries-sound}
 use Rattle.listing.specs.List.{standingLines}
-use Rattle.listing.specs.Pass.{isReplaced, stands, entryLine, addedBy, extentOf}
-use Rattle.listing.specs.declared.Extent.{Extent}
+use Rattle.listing.specs.Pass.{isReplaced, stands, entryLine, addedBy}
 use Rattle.listing.proofs.Passing.{passed, in-one-pass}
-use Rattle.listing.proofs.Sizes.{entry-encodable, one-line, adds-none, adds-one, passed-few}
+use Rattle.listing.proofs.Sizes.{mostLine, entry-encodable, entry-sized, one-line, adds-none, adds-one, passed-few}
 
 -- Whether an entry stands, by the tests of the code.
 module _ (e : Entry) (es : List Entry) (day : ℕ) where
@@ -73,17 +73,20 @@ line-is e p q = ap (λ (s : Stored). lineOf (e .key) (heldOffer s) 0) (sym q ∙
 
 -- How much an entry adds.
 module _ (e : Entry) (es : List Entry) (day : ℕ) where
-  pub extent-none : stands e es day ≡ false → record { lines = 0; bytes = 0 } ≡ extentOf (addedBy e es day)
-  unfolding extentOf
-  extent-none q = sym (ap extentOf (adds-none e es day q))
+  pub none-added : stands e es day ≡ false
+      → (0 ≡ length (addedBy e es day)) × (0 ≡ length (encodeLines (addedBy e es day)))
+  none-added q = rw (adds-none e es day q, lines-nil) (refl, refl)
 
-  pub extent-one : {n : ℕ} → stands e es day ≡ true → n ≡ length (encodeLine (entryLine e))
-      → record { lines = 1; bytes = n } ≡ extentOf (addedBy e es day)
-  unfolding extentOf
-  extent-one q p =
-      sym
-      (ap extentOf (adds-one e es day q)
-      ∙ ap (λ (k : ℕ). record { lines = 1; bytes = k }) (ap length (one-line (entryLine e)) ∙ sym p))
+  pub one-added : stands e es day ≡ true → 1 ≡ length (addedBy e es day)
+  one-added q = sym (ap length (adds-one e es day q))
+
+  pub size-added : {n : ℕ} {l : Line} → stands e es day ≡ true → l ≡ entryLine e → n ≡ sizeOfAll (lineFields l)
+      → n ≡ length (encodeLines (addedBy e es day))
+  size-added q p f =
+      f
+      ∙ ap (λ (l : Line). sizeOfAll (lineFields l)) p
+      ∙ entry-sized e
+      ∙ sym (ap length (ap encodeLines (adds-one e es day q) ∙ one-line (entryLine e)))
 
 -- Numbers that have an encoding and room are written: the answer and the bytes left.
 pub written : (s : List ℕ) (at : ℕ) (ns : List ℕ) {bytes l : List ℕ} {r : Written} → encodableAll ns ≡ true → bytes ≡ encodeAll ns
@@ -142,13 +145,11 @@ module _ (ws : List ℕ) (at left : ℕ) (h : 0 < left) where
     unfolding rest
     length-row = ap length bytes-row ∙ length-append (encodeLines (addedBy e rest day)) (encodeLines (passed rest day))
 
-    pub measured : {x : Extent} → x ≡ extentOf (addedBy e (entriesFrom ws (at + entryWords) (left - 1)) day)
-        → (length (passed (entriesFrom ws at left) day)
-        ≡ x .lines + length (passed (entriesFrom ws (at + entryWords) (left - 1)) day))
-        × (length (encodeLines (passed (entriesFrom ws at left) day))
-        ≡ x .bytes + length (encodeLines (passed (entriesFrom ws (at + entryWords) (left - 1)) day)))
-    unfolding rest extentOf
-    measured p = rw p (ap length passed-row ∙ length-append (addedBy e rest day) (passed rest day), length-row)
+    pub count-row : length (passed (entriesFrom ws at left) day)
+        ≡ length (addedBy e (entriesFrom ws (at + entryWords) (left - 1)) day)
+        + length (passed (entriesFrom ws (at + entryWords) (left - 1)) day)
+    unfolding rest
+    count-row = ap length passed-row ∙ length-append (addedBy e rest day) (passed rest day)
 
     -- What is left to write gives what it gave before.
     pub puts : (l : List ℕ) (end : ℕ) {m r : List ℕ} (to : ℕ)
@@ -179,10 +180,10 @@ module _ (ws : List ℕ) (day : ℕ) (s : sound ws ≡ true) where
   whole = in-one-pass (entriesOf ws) day (entries-sound ws s) ∙ ap (λ (es : List Entry). passed es day) (of-book ws)
 
   pub few : (length (standingLines (entriesOf ws) day) ≤ mostEntries)
-      × (length (encodeLines (standingLines (entriesOf ws) day)) ≤ 72 * mostEntries)
+      × (length (encodeLines (standingLines (entriesOf ws) day)) ≤ mostLine * length (standingLines (entriesOf ws) day))
   few =
       let p = passed-few (entriesOf ws) day in
       rw (in-one-pass (entriesOf ws) day (entries-sound ws s)) (
         omega (arith, length-entries ws, sound-book ws s .header .count-most),
-        omega (arith, length-entries ws, sound-book ws s .header .count-most),
+        p .1,
       )

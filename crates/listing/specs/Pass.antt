@@ -4,14 +4,11 @@ use mathlib.Core.Bool.{Bool, false, cond, _&&_, not}
 use mathlib.Core.List.{List, [], _∷_}
 use Prim.Native.Nat.{ℕ}
 use lib.Dec.{eqb, leb}
-use lib.ListN.{length}
 use Rattle.rate.specs.OfferWord.{offerOf}
 use Rattle.notice.specs.LineRule.{lineOf}
-use Rattle.notice.specs.Layout.{encodeLines}
 use Rattle.notice.specs.declared.Line.{Line}
 use Rattle.book.specs.Status.{heldOffer}
 use Rattle.book.specs.declared.Entry.{Entry}
-use Rattle.listing.specs.declared.Extent.{Extent}
 
 -- the first of the entries after an entry is of the same code and not after the day
 unfoldable pub isReplaced : Entry → List Entry → ℕ → Bool
@@ -32,8 +29,3 @@ entryLine e = lineOf (e .key) (heldOffer (offerOf (e .offer))) 0
 unfoldable pub addedBy : Entry → List Entry → ℕ → List Line
 unfolding stands entryLine
 addedBy e es day = cond (stands e es day) (entryLine e ∷ []) []
-
--- How many lines there are, and how many bytes they take.
-unfoldable pub extentOf : List Line → Extent
-unfolding encodeLines
-extentOf ls = record { lines = length ls; bytes = length (encodeLines ls) }

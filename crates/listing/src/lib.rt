@@ -2,6 +2,7 @@
 ghost use mathlib.Core.Path.{_≡_};
 ghost use mathlib.Core.Bool.{true, false};
 ghost use Prim.Native.Nat.{_+_, _-_, _*_, _≤_, _<_};
+ghost use lib.Dec.{leb};
 ghost use lib.ListN.{length};
 ghost use lib.Seq.{sets};
 ghost use Rattle.rate.specs.Time.{isReceivedDay};
@@ -9,7 +10,7 @@ ghost use Rattle.notice.specs.Layout.{encodeLines};
 ghost use Rattle.book.specs.Layout.{entryWords, entryAt, entriesFrom, entriesOf};
 ghost use Rattle.book.specs.Soundness.{sound};
 ghost use Rattle.listing.specs.List.{standingLines, listOf, listed, listAnswer, listBytes};
-ghost use Rattle.listing.specs.Pass.{stands, entryLine, addedBy, extentOf};
+ghost use Rattle.listing.specs.Pass.{stands, entryLine, addedBy};
 use book::Entry;
 use notice::Line;
 use rate::Day;
@@ -23,11 +24,8 @@ pub struct Listed {
     pub length: usize,
 }
 
-// How many lines there are, and how many bytes they take.
-struct Extent {
-    lines: usize,
-    bytes: usize,
-}
+// A line of the list takes at most so many bytes.
+const MOST_LINE: usize = 21;
 
 fn refused(e: u64) -> Listed
     ensures { λ r. ⌜ r ≡ listed e 0 ⌝ }
@@ -88,18 +86,26 @@ fn line_of(e: Entry) -> Line
     }
 }
 
-// What an entry adds to the list.
-fn measure_at(words: &[u64], at: usize, left: usize, e: Entry, day: u64) -> Extent
+// How many lines an entry adds to the list.
+fn added_lines(words: &[u64], at: usize, left: usize, e: Entry, day: u64) -> usize
     requires { ⌜ at + left * entryWords ≤ length (now words) ⌝ }
-    ensures { λ r. ⌜ r ≡ extentOf (addedBy e (entriesFrom (now (words .entry)) at left) day) ⌝ }
+    ensures { λ r. ⌜ r ≡ length (addedBy e (entriesFrom (now (words .entry)) at left) day) ⌝ }
 {
     if !is_standing(words, at, left, e, day) {
-        return Extent { lines: 0, bytes: 0 };
+        return 0;
     }
-    Extent {
-        lines: 1,
-        bytes: notice::line_size(line_of(e)),
+    1
+}
+
+// How many bytes an entry adds to the list.
+fn added_size(words: &[u64], at: usize, left: usize, e: Entry, day: u64) -> usize
+    requires { ⌜ at + left * entryWords ≤ length (now words) ⌝ }
+    ensures { λ r. ⌜ r ≡ length (encodeLines (addedBy e (entriesFrom (now (words .entry)) at left) day)) ⌝ }
+{
+    if !is_standing(words, at, left, e, day) {
+        return 0;
     }
+    notice::line_size(line_of(e))
 }
 
 // Writes what an entry adds to the list at a place of the lent bytes, and gives the place after it.
@@ -128,30 +134,58 @@ fn write_at(
     }
 }
 
-// How many lines the list has and how many bytes they take, in one pass over the entries.
-fn measure(words: &[u64], day: u64) -> Extent
+// How many lines the list has. No key is taken apart.
+fn count_lines(words: &[u64], day: u64) -> usize
     requires { ⌜ sound (now words) ≡ true ⌝ }
-    ensures { λ r. ⌜ r ≡ extentOf (standingLines (entriesOf (now (words .entry))) day) ⌝ }
+    ensures { λ r. ⌜ r ≡ length (standingLines (entriesOf (now (words .entry))) day) ⌝ }
 {
     let mut lines: usize = 0;
-    let mut bytes: usize = 0;
     let mut at = book::HEADER_WORDS;
     let mut left = words[0] as usize;
     while 0 < left {
         let e = entry_at(words, at);
         at += book::ENTRY_WORDS;
         left -= 1;
-        let x = measure_at(words, at, left, e, day);
-        lines += x.lines;
-        bytes += x.bytes;
+        lines += added_lines(words, at, left, e, day);
     }
-    Extent { lines, bytes }
+    lines
 }
 
-// Writes the lines of the list from a place of the lent bytes on.
-fn write_lines(words: &[u64], day: u64, out: &mut [u8], from: usize)
+// How many bytes the lines of the list take.
+fn lines_size(words: &[u64], day: u64) -> usize
+    requires { ⌜ sound (now words) ≡ true ⌝ }
+    ensures { λ r. ⌜ r ≡ length (encodeLines (standingLines (entriesOf (now (words .entry))) day)) ⌝ }
+{
+    let mut size: usize = 0;
+    let mut at = book::HEADER_WORDS;
+    let mut left = words[0] as usize;
+    while 0 < left {
+        let e = entry_at(words, at);
+        at += book::ENTRY_WORDS;
+        left -= 1;
+        size += added_size(words, at, left, e, day);
+    }
+    size
+}
+
+// Whether so many bytes hold the list. Its lines' sizes are added up only where lines of the largest size would not fit.
+fn is_held(words: &[u64], day: Day, lines: usize, room: usize) -> bool
+    requires { ⌜ (sound (now words) ≡ true) × (isReceivedDay day ≡ true) ⌝ }
+    requires { ⌜ (lines ≡ length (standingLines (entriesOf (now words)) (day .0))) × (0 < lines) ⌝ }
+    ensures { λ r. ⌜ r ≡ leb (length (listOf (now (words .entry)) day)) room ⌝ }
+{
+    let header = notice::header_size(notice::FULL, day.0, 0, lines as u64);
+    if header + lines * MOST_LINE <= room {
+        return true;
+    }
+    header + lines_size(words, day.0) <= room
+}
+
+// Writes the lines of the list from a place of the lent bytes on, and gives the place after them.
+fn write_lines(words: &[u64], day: u64, out: &mut [u8], from: usize) -> usize
     requires { ⌜ sound (now words) ≡ true ⌝ }
     requires { ⌜ from + length (encodeLines (standingLines (entriesOf (now words)) day)) ≤ length (now out) ⌝ }
+    ensures { λ r. ⌜ r ≡ from + length (encodeLines (standingLines (entriesOf (now (words .entry))) day)) ⌝ }
     ensures { λ _. ⌜ now (out .exit) ≡ sets (now (out .entry)) from
         (encodeLines (standingLines (entriesOf (now (words .entry))) day)) ⌝ }
 {
@@ -164,19 +198,21 @@ fn write_lines(words: &[u64], day: u64, out: &mut [u8], from: usize)
         left -= 1;
         end = write_at(words, at, left, e, day, out, end);
     }
+    end
 }
 
-// Writes a list that is not refused.
-fn write_all(words: &[u64], day: Day, lines: usize, out: &mut [u8])
+// Writes a list that is not refused, and gives its length.
+fn write_all(words: &[u64], day: Day, lines: usize, out: &mut [u8]) -> usize
     requires { ⌜ (sound (now words) ≡ true) × (isReceivedDay day ≡ true) ⌝ }
     requires { ⌜ (lines ≡ length (standingLines (entriesOf (now words)) (day .0))) × (0 < lines) ⌝ }
     requires { ⌜ length (listOf (now words) day) ≤ length (now out) ⌝ }
+    ensures { λ r. ⌜ r ≡ length (listOf (now (words .entry)) day) ⌝ }
     ensures { λ _. ⌜ now (out .exit) ≡ sets (now (out .entry)) 0 (listOf (now (words .entry)) day) ⌝ }
 {
     match notice::write_header(out, 0, notice::FULL, day.0, 0, lines as u64) {
         Written::UpTo(at) => write_lines(words, day.0, out, at),
-        Written::NoRoom => {}
-        Written::TooLarge => {}
+        Written::NoRoom => 0,
+        Written::TooLarge => 0,
     }
 }
 
@@ -193,14 +229,13 @@ pub fn write_list(words: &[u64], day: Day, out: &mut [u8]) -> Listed
     if !day.can_be_received() {
         return refused(refusal::TIME_OUT_OF_RANGE);
     }
-    let x = measure(words, day.0);
-    if x.lines == 0 {
+    let lines = count_lines(words, day.0);
+    if lines == 0 {
         return refused(refusal::NO_OFFER);
     }
-    let length = notice::header_size(notice::FULL, day.0, 0, x.lines as u64) + x.bytes;
-    if out.len() < length {
+    if !is_held(words, day, lines, out.len()) {
         return refused(refusal::BUFFER_TOO_SHORT);
     }
-    write_all(words, day, x.lines, out);
+    let length = write_all(words, day, lines, out);
     Listed { refusal: 0, length }
 }

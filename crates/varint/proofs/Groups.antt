@@ -54,6 +54,17 @@ few-bytes (suc k) n = elim (decLe 128 n) [
   | no h ↦ rw (single k n (omega arith)) (omega arith)
 ]
 
+-- A number below 128 to the power suc k takes at most suc k bytes, however many groups it may take.
+pub bytes-below : (m k n : ℕ) → n < 128 ^ suc k → length (groupsOf m n) ≤ suc k
+unfolding groupsOf
+bytes-below zero k n l = omega arith
+bytes-below (suc m) k n l = elim (decLe 128 n) [
+  | yes h ↦
+      let p = more k n h l in
+      rw (several m n h) (omega (arith, p .one, bytes-below m (p .j) (n / 128) (p .less)))
+  | no h ↦ rw (single m n (omega arith)) (omega arith)
+]
+
 pub a-byte : (k n i : ℕ) → getD (groupsOf k n) i 0 < 256
 unfolding groupsOf
 a-byte zero n i = omega arith

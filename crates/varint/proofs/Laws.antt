@@ -3,7 +3,7 @@
 use mathlib.Core.Path.{_≡_, refl, ap, sym, _∙_}
 use mathlib.Core.Logic.{_⊎_, _↔_, ⊎-elim, inl, inr}
 use mathlib.Core.List.{List, [], _++_, append-assoc}
-use Prim.Native.Nat.{ℕ, _+_, _^_, _≤_, _<_}
+use Prim.Native.Nat.{ℕ, zero, suc, _+_, _^_, _≤_, _<_}
 use native.Mathlib.Omega.{arith}
 use lib.ListN.{length, getD, take, drop, length-drop, take-append-drop}
 use lib.Seq.{drop-append-seam, drop-drop, getD-drop, length-take-le}
@@ -12,7 +12,7 @@ use Rattle.varint.specs.declared.Number.{Number}
 use Rattle.varint.specs.declared.Number.the-variants.{Value, Refused}
 use Rattle.varint.specs.Reading.{groups, from, readNumber}
 use Rattle.varint.specs.Writing.{encode, answer, left}
-use Rattle.varint.proofs.Groups.{nine, some-byte, few-bytes, a-byte, back}
+use Rattle.varint.proofs.Groups.{nine, some-byte, few-bytes, bytes-below, a-byte, back}
 use Rattle.varint.proofs.Values.{front, within, stands}
 use Rattle.varint.proofs.Refusals.{front-refused, refused, ended, ended-refused, longer, longer-refused}
 use Rattle.varint.proofs.Outcome.{written}
@@ -98,6 +98,11 @@ not-shortest s at = (
 -- An encoding has one to nine bytes.
 pub size : (n : ℕ) → (1 ≤ length (encode n)) × (length (encode n) ≤ 9)
 size n = rw nine (some-byte 8 n, few-bytes 9 n)
+
+-- That of a number below 128 to the power k has at most k.
+pub size-below : (k n : ℕ) → 0 < k → n < 128 ^ k → length (encode n) ≤ k
+size-below zero n h l = absurd (omega arith)
+size-below (suc k) n h l = rw nine (bytes-below 9 k n l)
 
 -- Each of them is a byte.
 pub bytes : (n i : ℕ) → getD (encode n) i 0 < 256

@@ -59,7 +59,8 @@ returns c =
     let w = started d in
     let at = up-to (w .0) (c .before .before .before .before .before .at .given .1) in
     all-written _ _ (p .0 .0) (p .0 .1) (some-line d) _ (p .1 .1) at (w .1)
-    (c .before .before .write-lines .ensures)
+    (c .before .before .write-lines .ensures .0)
+    (c .before .before .write-lines .ensures .1)
 
 same-length-2 : tie.Need-same-length-2
 same-length-2 c = search needs

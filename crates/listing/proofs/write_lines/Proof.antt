@@ -1,5 +1,5 @@
--- write_lines meets its contract. The loop's invariant: the lines of the entries left, stored from `end` on, give what all lines
--- stored from `from` on give. The measure is the number of entries left. Assumes nothing.
+-- write_lines meets its contract. The loop's invariant: the lines of the entries left, stored from `end` on, end where all lines
+-- stored from `from` on end, and give what those give. The measure is the number of entries left. Assumes nothing.
 use mathlib.Core.Path.{_≡_, refl, ap, sym, _∙_}
 use mathlib.Core.List.{List}
 use Prim.Native.Nat.{_+_, _*_, _≤_}
@@ -22,7 +22,8 @@ abbrev Inv-loop : tie.InvT-loop
 Inv-loop words day out₀ from end₀ at₀ left₀ out end at left =
     (at + left * entryWords ≤ length words)
     × (length out ≡ length out₀)
-    × (end + length (encodeLines (passed (entriesFrom words at left) day)) ≤ length out₀)
+    × (end + length (encodeLines (passed (entriesFrom words at left) day))
+    ≡ from + length (encodeLines (standingLines (entriesOf words) day)))
     × (sets out end (encodeLines (passed (entriesFrom words at left) day))
     ≡ sets out₀ from (encodeLines (standingLines (entriesOf words) day)))
 
@@ -39,7 +40,7 @@ loop-holds c =
     let w = whole (a .words .now) (a .day) s in (
       sound-book _ s .header .room,
       refl,
-      omega (arith, ap (λ (l : List Line). length (encodeLines l)) w, c .before .before .before .pre .1),
+      omega (arith, ap (λ (l : List Line). length (encodeLines l)) w),
       ap (λ (l : List Line). sets (a .out .now) (a .from) (encodeLines l)) (sym w),
     )
 
@@ -54,9 +55,9 @@ sub-left c = search needs
 
 write-at-requires : tie.Need-write-at-requires Inv-loop μ-loop
 write-at-requires c κs =
-    let day = c .before .before .before .before .before .before .before .args .day in
-    let n = length-row _ _ _ (c .before .before .loop-test .taken) day (c .before .entry-at .ensures) in
-    (omega arith, omega (arith, n))
+    let p = c .before .before .before .before .before .before .before in
+    let n = length-row _ _ _ (c .before .before .loop-test .taken) (p .args .day) (c .before .entry-at .ensures) in
+    (omega arith, omega (arith, n, p .pre .1))
 
 loop-less : tie.Need-loop-less Inv-loop μ-loop
 loop-less c = search needs
@@ -83,7 +84,8 @@ returns c =
     let a = c .before .before .before .before .before .args in
     let l = c .before .loop in
     let n = none-left (a .words .now) (l .at) (l .left) (a .day) (omega arith) in
-    sym (ap (sets (l .out) (l .end)) (ap encodeLines n ∙ lines-nil)) ∙ l .inv .3
+    let z = ap encodeLines n ∙ lines-nil in
+    (omega (arith, l .inv .2, ap length z), sym (ap (sets (l .out) (l .end)) z) ∙ l .inv .3)
 
 pub write-lines-spec : {M : Type 1} → statement M
 write-lines-spec =

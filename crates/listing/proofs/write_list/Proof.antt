@@ -1,7 +1,7 @@
 -- write_list meets its contract: a refusal leaves the bytes as they were, any other call writes the list. Assumes nothing.
 use mathlib.Core.Path.{_≡_, sym, _∙_}
 use mathlib.Core.Bool.{true}
-use Prim.Native.Nat.{_+_, _*_, _≤_}
+use Prim.Native.Nat.{_≤_}
 use native.Mathlib.Omega.{arith}
 use borrow.Author.Needs.{needs}
 use lib.ListN.{length}
@@ -10,42 +10,32 @@ use Rattle.listing.proofs.write_list.Tie as tie
 use Rattle.rate.specs.Time.{isReceivedDay}
 use Rattle.book.specs.Answers.{bookRefusal}
 use Rattle.book.proofs.Lookups.{usable-sound}
-use borrow.Author.Tests.{not-true, not-false}
+use borrow.Author.Tests.{not-true, not-false, leb-true, leb-false}
 use Rattle.listing.proofs.Answering.{no-book, no-day, no-line, no-room, has-room, refused, done}
-use Rattle.listing.proofs.Answering.{list-size, counted, some-lines}
 use Rattle.dial_code.proofs.Tests.{positive}
 use Rattle.book.specs.Layout.{entriesOf}
 use Rattle.listing.specs.List.{standingLines, listOf}
-use Prim.Native.Nat.{_<_}
 
 -- past the first test the book can be used, past the second the day is one on which a notice can be received
 usable : (c : tie.Else1) → bookRefusal (c .before .before .before .before .args .words .now) ≡ 0
 usable c = sym (c .before .book-refusal .ensures) ∙ c .if1 .left
 
-ready : (c : tie.After-measure) →
+ready : (c : tie.After-count-lines) →
     let a = c .before .before .before .before .before .before .before .args in
     (bookRefusal (a .words .now) ≡ 0)
     × (isReceivedDay (a .day) ≡ true)
-    × (c .measure .result .lines ≡ length (standingLines (entriesOf (a .words .now)) (a .day .0)))
+    × (c .count-lines .result ≡ length (standingLines (entriesOf (a .words .now)) (a .day .0)))
 ready c = (
   usable (c .before .before .before),
   sym (c .before .before .can-be-received .ensures) ∙ not-false _ (c .before .if2 .left),
-  counted _ _ (c .measure .ensures),
+  c .count-lines .ensures,
 )
 
--- past the third something stands, and the length that the code works out is the list's
-sized : (c : tie.After-header-size) →
+-- past the last the list fits
+fits : (c : tie.Else4) →
     let a = c .before .before .before .before .before .before .before .before .before .before .args in
-    let x = c .before .before .before .measure .result in
-    (c .header-size .result + x .bytes ≡ length (listOf (a .words .now) (a .day)))
-    × (c .header-size .result + x .bytes ≤ 27 + 72 * 65535)
-    × (0 < x .lines)
-sized c =
-    let d = c .before .before .before in
-    let p = ready d in
-    let n = some-lines _ _ (d .measure .ensures) (c .before .if3 .left) in
-    let z = list-size _ _ (usable-sound _ (p .0)) (p .1) n (d .measure .ensures) (c .header-size .ensures) in
-    (z .0, z .1, positive (c .before .if3 .left))
+    length (listOf (a .words .now) (a .day)) ≤ length (a .out .now)
+fits c = leb-true _ _ (sym (c .before .is-held .ensures) ∙ not-false _ (c .if4 .left))
 
 book-refusal-requires : tie.Need-book-refusal-requires
 book-refusal-requires c κs = search needs
@@ -75,62 +65,60 @@ returns-2 c =
     (sym (c .before .before .can-be-received .ensures) ∙ not-true _ (c .before .if2 .taken)))
     (λ z. omega arith)
 
-measure-requires : tie.Need-measure-requires
-measure-requires c κs = usable-sound _ (usable (c .before .before))
+count-lines-requires : tie.Need-count-lines-requires
+count-lines-requires c κs = usable-sound _ (usable (c .before .before))
 
 refused-requires-3 : tie.Need-refused-requires-3
 refused-requires-3 c κs = search needs
 
 returns-3 : tie.Need-returns-3
 returns-3 c =
-    let a = c .before .before .before .before .before .before .before .before .before .before .args in
-    let p = ready (c .before .before .before) in
+    let a = c .before .before .before .before .before .before .before .before .before .args in
+    let p = ready (c .before .before) in
     refused (a .words .now) (a .day) (a .out .now) (c .refused3 .ensures)
     (no-line (a .words .now) (a .day) _ (p .0) (p .1) (sym (p .2) ∙ c .before .if3 .taken))
     (λ z. omega arith)
 
-header-size-requires : tie.Need-header-size-requires
-header-size-requires c κs = search needs
-
-add-length : tie.Need-add-length
-add-length c = omega (arith, sized (c .before) .1)
+is-held-requires : tie.Need-is-held-requires
+is-held-requires c κs =
+    let p = ready (c .before) in
+    ((usable-sound _ (p .0), p .1), (p .2, positive (c .if3 .left)))
 
 refused-requires-4 : tie.Need-refused-requires-4
 refused-requires-4 c κs = search needs
 
 returns-4 : tie.Need-returns-4
 returns-4 c =
-    let a = c .before .before .before .before .before .before .before .before .before .before .before .before .before .args in
-    let z = sized (c .before .before .before) in
-    let p = ready (c .before .before .before .before .before .before) in
+    let h = c .before .before in
+    let a = h .before .before .before .before .before .before .before .before .before .args in
+    let p = ready (h .before .before) in
     refused (a .words .now) (a .day) (a .out .now) (c .refused4 .ensures)
     (no-room (a .words .now) (a .day) _ (p .0) (p .1)
-    (λ e. omega (arith, p .2, z .2))
-    (omega (arith, z .0, c .before .if4 .taken)))
+    (λ e. h .before .if3 .left (p .2 ∙ e))
+    (leb-false _ _ (sym (h .is-held .ensures) ∙ not-true _ (c .before .if4 .taken))))
     (λ e. omega arith)
 
 write-all-requires : tie.Need-write-all-requires
 write-all-requires c κs =
-    let z = sized (c .before .before .before) in
-    let p = ready (c .before .before .before .before .before .before) in
-    ((usable-sound _ (p .0), p .1), ((p .2, z .2), omega (arith, z .0, c .before .if4 .left)))
+    let h = c .before .before in
+    let p = ready (h .before .before) in
+    ((usable-sound _ (p .0), p .1), ((p .2, positive (h .before .if3 .left)), fits (c .before)))
 
 same-length : tie.Need-same-length
 same-length c = search needs
 
 returns-5 : tie.Need-returns-5
 returns-5 c =
-    let d = c .before .before .before .before .before .before in
-    let a = d .before .before .before .before .before .before .before .before .before .before .args in
-    let z = sized d in
-    let p = ready (d .before .before .before) in
-    let u : length (listOf (a .words .now) (a .day)) ≤ length (a .out .now) =
-    omega (arith, z .0, c .before .before .before .before .if4 .left) in
+    let h = c .before .before .before .before .before in
+    let a = h .before .before .before .before .before .before .before .before .before .args in
+    let p = ready (h .before .before) in
+    let u = fits (c .before .before .before .before) in
+    let w = c .before .before .write-all .ensures in
     done (a .words .now) (a .day) (a .out .now)
-    (has-room (a .words .now) (a .day) _ (p .0) (p .1) (λ e. omega (arith, p .2, z .2)) u)
+    (has-room (a .words .now) (a .day) _ (p .0) (p .1) (λ e. h .before .if3 .left (p .2 ∙ e)) u)
     u
-    (z .0)
-    (c .before .before .write-all .ensures)
+    (w .0)
+    (w .1)
 
 pub write-list-spec : {M : Type 1} → statement M
 write-list-spec =
@@ -142,11 +130,10 @@ write-list-spec =
     can-be-received-requires
     refused-requires-2
     returns-2
-    measure-requires
+    count-lines-requires
     refused-requires-3
     returns-3
-    header-size-requires
-    add-length
+    is-held-requires
     refused-requires-4
     returns-4
     write-all-requires

@@ -1,0 +1,98 @@
+-- lines_size meets its contract. The loop's invariant: what is added up and what the entries left add come to the list's bytes.
+-- The measure is the number of entries left. Assumes nothing.
+use mathlib.Core.Path.{_≡_, ap}
+use mathlib.Core.List.{List}
+use Prim.Native.Nat.{_+_, _-_, _*_, _≤_}
+use native.Mathlib.Omega.{arith}
+use borrow.Author.Needs.{needs}
+use lib.ListN.{length}
+use Rattle.listing.proofs.lines_size.Statement.{statement}
+use Rattle.listing.proofs.lines_size.Tie as tie
+use Rattle.notice.specs.Layout.{encodeLines}
+use Rattle.notice.specs.declared.Line.{Line}
+use Rattle.notice.proofs.LayoutLaws.{lines-nil}
+use Rattle.book.specs.Layout.{entryWords, entriesFrom, entriesOf}
+use Rattle.book.proofs.Headers.{sound-book}
+use Rattle.listing.specs.List.{standingLines}
+use Rattle.listing.proofs.Passing.{passed}
+use Rattle.listing.proofs.Turns.{length-row, none-left, whole, few}
+
+abbrev Inv-loop : tie.InvT-loop
+Inv-loop words day size₀ at₀ left₀ size at left =
+    (at + left * entryWords ≤ length words)
+    × (size + length (encodeLines (passed (entriesFrom words at left) day))
+    ≡ length (encodeLines (standingLines (entriesOf words) day)))
+
+abbrev μ-loop : tie.MeasureT-loop
+μ-loop words day size₀ at₀ left₀ size at left = left
+
+-- what an entry adds, and what the entries after it add
+at-turn : (c : tie.After-added-size Inv-loop μ-loop) →
+    let l = c .before .before .before .loop in
+    let a = c .before .before .before .before .before .before .args in
+    length (encodeLines (passed (entriesFrom (a .words .now) (l .at) (l .left)) (a .day)))
+    ≡ c .added-size .result + length (encodeLines (passed (entriesFrom (a .words .now) (l .at + entryWords) (l .left - 1)) (a .day)))
+at-turn c =
+    let a = c .before .before .before .before .before .before .args in
+    omega (
+      arith,
+      length-row _ _ _ (c .before .before .loop-test .taken) (a .day) (c .before .entry-at .ensures),
+      c .added-size .ensures,
+    )
+
+shared-slice-read-left : tie.Need-shared-slice-read-left Inv-loop μ-loop
+shared-slice-read-left c = omega (arith, sound-book _ (c .before .before .pre) .four)
+
+loop-holds : tie.Need-loop-holds Inv-loop μ-loop
+loop-holds c =
+    let s = c .before .before .pre in
+    let w = whole (c .before .before .args .words .now) (c .before .before .args .day) s in
+    (sound-book _ s .header .room, omega (arith, ap (λ (l : List Line). length (encodeLines l)) w))
+
+entry-at-requires : tie.Need-entry-at-requires Inv-loop μ-loop
+entry-at-requires c κs = search needs
+
+add-at : tie.Need-add-at Inv-loop μ-loop
+add-at c = search needs
+
+sub-left : tie.Need-sub-left Inv-loop μ-loop
+sub-left c = search needs
+
+added-size-requires : tie.Need-added-size-requires Inv-loop μ-loop
+added-size-requires c κs = search needs
+
+add-size : tie.Need-add-size Inv-loop μ-loop
+add-size c =
+    let p = c .before .before .before .before .before .before in
+    let m = few _ (p .args .day) (p .pre) in
+    omega (arith, at-turn c, m .0, m .1)
+
+loop-less : tie.Need-loop-less Inv-loop μ-loop
+loop-less c = search needs
+
+loop-again : tie.Need-loop-again Inv-loop μ-loop
+loop-again c = (omega arith, omega (arith, at-turn c))
+
+returns : tie.Need-returns Inv-loop μ-loop
+returns c =
+    let a = c .before .before .before .before .args in
+    let l = c .before .loop in
+    let n = none-left (a .words .now) (l .at) (l .left) (a .day) (omega arith) in
+    omega (arith, l .inv .1, ap (λ (l : List Line). length (encodeLines l)) n, ap length lines-nil)
+
+pub lines-size-spec : {M : Type 1} → statement M
+lines-size-spec =
+    tie.close
+    (tie.spec
+    Inv-loop
+    μ-loop
+    shared-slice-read-left
+    loop-holds
+    entry-at-requires
+    add-at
+    sub-left
+    added-size-requires
+    add-size
+    loop-less
+    loop-again
+    returns)
