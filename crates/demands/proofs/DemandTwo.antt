@@ -3,7 +3,7 @@
 use mathlib.Core.Path.{_≡_}
 use mathlib.Core.Bool.{true, cond}
 use mathlib.Core.List.{List, [], _∷_, _++_, map}
-use Prim.Native.Nat.{ℕ, _*_, _≤_}
+use Prim.Native.Nat.{ℕ, _+_, _*_, _≤_, _<_}
 use lib.Dec.{leb}
 use lib.ListN.{length, take, drop}
 use Rattle.dial_code.specs.Key.{codeKey}
@@ -20,10 +20,11 @@ use Rattle.notice.proofs.LineBack as back
 use Rattle.notice.proofs.NoticeLaws as laws
 use Rattle.notice.proofs.NoticeBack as backs
 use Rattle.dial_code.specs.Digits.{isWritten, isDialled}
-use Rattle.rate.specs.Time.{lastReceivedDay, isDay}
+use Rattle.rate.specs.Time.{lastReceivedDay, isDay, isReceivedDay}
 use Rattle.rate.specs.declared.Day.{Day}
 use Rattle.rate.specs.declared.Offer.the-variants.{Closed}
 use Rattle.book.specs.Layout.{headerWords, held, entriesOf}
+use Rattle.book.specs.Soundness.{sound}
 use Rattle.book.specs.Status.{answer}
 use Rattle.book.specs.Answers.{freshRefusal, freshBook, bookRefusal, lookup}
 use Rattle.book.specs.declared.Lookup.the-variants.{Found}
@@ -32,7 +33,8 @@ use Rattle.rating.specs.Call.{rateCall}
 use Rattle.rating.specs.Batch.{rowWords, dialledAs, rowOf, callWords, rowsOf}
 use Rattle.rating.specs.declared.CallRecord.{CallRecord}
 use Rattle.rating.proofs.BatchLaws as batches
-use Rattle.listing.specs.List.{standingLines, standingNotice, listAnswer, listBytes}
+use Rattle.listing.specs.List.{standingLines, standingNotice, listOf, listAnswer, listBytes}
+use Rattle.listing.proofs.Answering as answering
 use Rattle.listing.proofs.ReadsBack as lists
 use Rattle.listing.proofs.Relisted as relisted
 
@@ -75,6 +77,15 @@ pub written-list-reads-back :
     → readNotice (take (listAnswer ws day (length out) .length) (listBytes ws day out))
     ≡ notice (standingNotice (entriesOf ws) (day .0))
 written-list-reads-back = lists.written-reads-back
+
+-- A standing list takes at most 21 bytes a line, and 7 before them.
+pub list-most :
+    (ws : List ℕ) (day : Day)
+    → sound ws ≡ true
+    → isReceivedDay day ≡ true
+    → 0 < length (standingLines (entriesOf ws) (day .0))
+    → length (listOf ws day) ≤ 7 + 21 * length (standingLines (entriesOf ws) (day .0))
+list-most = answering.list-most
 
 -- A batch is rated, with counts and total those of its rows, or stopped, with no word changed.
 pub batch-outcome : (ws s rows : List ℕ) → batches.Outcome ws s rows
