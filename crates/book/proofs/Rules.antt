@@ -76,14 +76,11 @@ module _ (e : Entry) where
   pub by-word : e .day ≤ lastDay → inRange e ≡ isOfferWord (e .offer)
   by-word h = range-test e ∙ and-left-true _ (le-leb _ _ h)
 
-  pub closed-start : e .offer ≡ 0 → begins e ≡ false
-  closed-start h = begins-test e ∙ and-right-false (isCodeKey (e .key)) (rw (eq-eqb (e .offer) 0 h))
+  pub not-open : (not (eqb (e .offer) 0) && inRange e) ≡ false → begins e ≡ false
+  not-open h = begins-test e ∙ and-right-false (isCodeKey (e .key)) h
 
-  pub out-of-range : inRange e ≡ false → begins e ≡ false
-  out-of-range h = begins-test e ∙ and-right-false (isCodeKey (e .key)) (and-right-false (not (eqb (e .offer) 0)) h)
-
-  pub by-key : (e .offer ≡ 0 → ⊥) → inRange e ≡ true → begins e ≡ isCodeKey (e .key)
-  by-key n h = begins-test e ∙ and-right-true (isCodeKey (e .key)) (rw (ne-eqb (e .offer) 0 n) h)
+  pub by-key : (not (eqb (e .offer) 0) && inRange e) ≡ true → begins e ≡ isCodeKey (e .key)
+  by-key h = begins-test e ∙ and-right-true (isCodeKey (e .key)) h
 
 module _ (e f : Entry) where
   module _ (k : e .key ≡ f .key) where

@@ -5,7 +5,7 @@ use mathlib.Core.Bool.{Bool, true, false, cond, _&&_, not}
 use mathlib.Core.List.{List, [], _∷_}
 use Prim.Native.Nat.{ℕ, zero, suc, _≤_, _<_}
 use native.Mathlib.Omega.{arith}
-use borrow.Author.Tests.{leb-true, ltb-true, eqb-true, eqb-false, not-true}
+use borrow.Author.Tests.{leb-true, ltb-true, eqb-true, eqb-false, not-true, ne-eqb}
 use lib.Dec.{eqb, ltb}
 use lib.ListN.{length}
 use Rattle.dial_code.specs.Code.{isCodeKey}
@@ -44,7 +44,7 @@ range-facts e h =
     let a = both _ _ (sym (range-test e) ∙ h) in
     (leb-true (e .day) lastDay (a .0), a .1)
 
-begins-facts : (e : Entry) → begins e ≡ true → (e .offer ≡ 0 → ⊥) × Allowed e
+pub begins-facts : (e : Entry) → begins e ≡ true → (e .offer ≡ 0 → ⊥) × Allowed e
 begins-facts e h =
     let a = both _ _ (sym (begins-test e) ∙ h) in
     let b = both _ _ (a .1) in
@@ -52,9 +52,9 @@ begins-facts e h =
     (eqb-false (e .offer) 0 (not-true _ (b .0)), record { code = a .0; day-most = r .0; offer-word = r .1 })
 
 facts-begin : (e : Entry) → (e .offer ≡ 0 → ⊥) → Allowed e → begins e ≡ true
-facts-begin e n a = by-key e n (by-word e (a .day-most) ∙ a .offer-word) ∙ a .code
+facts-begin e n a = by-key e (rw (ne-eqb (e .offer) 0 n) (by-word e (a .day-most) ∙ a .offer-word)) ∙ a .code
 
-follows-facts : (e f : Entry) → Allowed e → follows e f ≡ true → After (e .key) (suc (e .day)) (e .offer) f × Allowed f
+pub follows-facts : (e f : Entry) → Allowed e → follows e f ≡ true → After (e .key) (suc (e .day)) (e .offer) f × Allowed f
 follows-facts e f l h = go (eqb (e .key) (f .key)) refl (sym (follows-test e f) ∙ h)
   where
     go : (t : Bool) → eqb (e .key) (f .key) ≡ t

@@ -1,18 +1,22 @@
 // The book (document 01, "The book"): a lent slice of 64-bit words, whatever it holds.
 ghost use mathlib.Core.Path.{_≡_};
-ghost use Prim.Native.Nat.{_+_, _-_, _*_, _≤_, min};
+ghost use mathlib.Core.Bool.{true, not, _&&_};
+ghost use Prim.Native.Nat.{_+_, _-_, _*_, _≤_};
+ghost use lib.Dec.{eqb};
 ghost use lib.ListN.{length, drop, replicate};
 ghost use lib.Seq.{sets};
+ghost use Rattle.dial_code.specs.Code.{isCodeKey};
 ghost use Rattle.book.specs.Layout.{headerWords, entryWords, entryAt, entriesFrom, held};
 ghost use Rattle.book.specs.Soundness.{isOfferWord, inRange, begins, follows, soundEntries, allZero, soundHeader, sound};
-ghost use Rattle.rate.specs.OfferWord.{offerOf};
-ghost use Rattle.book.specs.Status.{heldOffer, isStanding};
-ghost use Rattle.book.specs.Search.{notAfter, headedCount, foundUpTo, lastEntry, ownWord, bestFound};
 ghost use Rattle.book.specs.Answers.{freshRefusal, freshWords, bookRefusal, lookup};
+
+mod search;
+
 use dial_code::Keyed;
 use rate::Day;
 use rate::Offer;
 use rate::Stored;
+pub use search::best_offer;
 
 pub const HEADER_WORDS: usize = 4;
 
@@ -84,21 +88,29 @@ fn in_range(e: Entry) -> bool
     is_offer_word(e.offer)
 }
 
-// Whether an entry can be the first of a code.
-fn can_begin(e: Entry) -> bool
-    ensures { λ r. ⌜ r ≡ begins e ⌝ }
+// Whether an entry's day and offer can be the first of a code: in range, and not closed.
+fn can_open(e: Entry) -> bool
+    ensures { λ r. ⌜ r ≡ (not (eqb (e .offer) 0) && inRange e) ⌝ }
 {
     if e.offer == 0 {
         return false;
     }
-    if !in_range(e) {
+    in_range(e)
+}
+
+// Whether an entry can be the first of all.
+fn can_begin(e: Entry) -> bool
+    ensures { λ r. ⌜ r ≡ begins e ⌝ }
+{
+    if !can_open(e) {
         return false;
     }
     dial_code::is_code_key(e.key)
 }
 
-// Whether one entry can stand after another.
+// Whether one entry can stand after another, which is of an allowed code.
 fn can_follow(e: Entry, f: Entry) -> bool
+    requires { ⌜ isCodeKey (e .key) ≡ true ⌝ }
     ensures { λ r. ⌜ r ≡ follows e f ⌝ }
 {
     if e.key == f.key {
@@ -113,7 +125,10 @@ fn can_follow(e: Entry, f: Entry) -> bool
     if f.key < e.key {
         return false;
     }
-    can_begin(f)
+    if !can_open(f) {
+        return false;
+    }
+    dial_code::is_code_key_after(e.key, f.key)
 }
 
 // Whether the first entries are sound, each read once and held against the one before it.
@@ -226,151 +241,6 @@ pub fn clear(words: &mut [u64], from: usize)
     while i < words.len() {
         words[i] = 0;
         i += 1;
-    }
-}
-
-// Whether an entry stands no later than a code and a day.
-fn is_not_after(e: Entry, key: u64, day: u64) -> bool
-    ensures { λ r. ⌜ r ≡ notAfter e key day ⌝ }
-{
-    if e.key < key {
-        return true;
-    }
-    if key < e.key {
-        return false;
-    }
-    e.day <= day
-}
-
-// The entries to search: none where the words have no sound header.
-fn headed_count(words: &[u64]) -> usize
-    ensures { λ r. ⌜ r ≡ headedCount (now (words .entry)) ⌝ }
-{
-    if words.len() < HEADER_WORDS {
-        return 0;
-    }
-    if !is_headed(words) {
-        return 0;
-    }
-    words[0] as usize
-}
-
-// How many of the first entries stand no later than a code and a day, found by halving.
-fn entries_up_to(words: &[u64], count: usize, key: u64, day: u64) -> usize
-    requires { ⌜ count * entryWords ≤ length (now words) - headerWords ⌝ }
-    ensures { λ r. ⌜ r ≡ foundUpTo (now (words .entry)) count key day ⌝ }
-{
-    let mut lo: usize = 0;
-    let mut hi = count;
-    while lo < hi {
-        let mid = lo + (hi - lo) / 2;
-        let e = entry_at(words, HEADER_WORDS + mid * ENTRY_WORDS);
-        if is_not_after(e, key, day) {
-            lo = mid + 1;
-        } else {
-            hi = mid;
-        }
-    }
-    lo
-}
-
-// The last of so many entries, and one of zeros where there is none.
-fn last_entry(words: &[u64], count: usize) -> Entry
-    requires { ⌜ count * entryWords ≤ length (now words) - headerWords ⌝ }
-    ensures { λ r. ⌜ r ≡ lastEntry (now (words .entry)) count ⌝ }
-{
-    if count == 0 {
-        return Entry {
-            key: 0,
-            day: 0,
-            offer: 0,
-        };
-    }
-    entry_at(words, HEADER_WORDS + (count - 1) * ENTRY_WORDS)
-}
-
-// The offer word of an entry where it is the code's, and closed where it is another's.
-fn own_word(e: Entry, key: u64) -> u64
-    ensures { λ r. ⌜ r ≡ ownWord e key ⌝ }
-{
-    if e.key == key {
-        return e.offer;
-    }
-    0
-}
-
-// The offer that a word stands for, closed where it is no offer word.
-fn offer_held(word: u64) -> Offer
-    ensures { λ r. ⌜ r ≡ heldOffer (offerOf word) ⌝ }
-{
-    match rate::word_offer(word) {
-        Stored::Holds(o) => o,
-        Stored::Invalid => Offer::Closed,
-    }
-}
-
-fn is_standing(offer: Offer) -> bool
-    ensures { λ r. ⌜ r ≡ isStanding offer ⌝ }
-{
-    match offer {
-        Offer::Closed => false,
-        Offer::Blocked => true,
-        Offer::Open {
-            rate: _,
-            first: _,
-            next: _,
-        } => true,
-    }
-}
-
-// A key where it is below another, else what is just below that.
-fn lesser_below(last: u64, key: u64) -> u64
-    ensures { λ r. ⌜ r ≡ min last (key - 1) ⌝ }
-{
-    if last < key {
-        return last;
-    }
-    if key == 0 {
-        return 0;
-    }
-    key - 1
-}
-
-// The offer of the longest beginning of a code or number, given by its key, whose status on a day is open or blocked. A key is
-// truncated place by place. A search leaves the entries it found to search, and says up to which key they go: a truncation above
-// that `bound` has no entry, and is not searched for.
-pub fn best_offer(words: &[u64], key: u64, day: u64) -> Answer
-    ensures { λ r. ⌜ r ≡ bestFound (now (words .entry)) key day ⌝ }
-{
-    let mut count = headed_count(words);
-    let mut bound = key;
-    let mut quotient = key;
-    let mut place: u64 = 1;
-    let mut n: u64 = 15;
-    while 0 < n {
-        if count == 0 {
-            return Answer {
-                key: 0,
-                offer: Offer::Closed,
-            };
-        }
-        let k = quotient * place;
-        if k <= bound {
-            count = entries_up_to(words, count, k, day);
-            let e = last_entry(words, count);
-            let offer = offer_held(own_word(e, k));
-            if is_standing(offer) {
-                return Answer { key: k, offer };
-            }
-            bound = lesser_below(e.key, k);
-        }
-        quotient /= 11;
-        place *= 11;
-        n -= 1;
-    }
-    Answer {
-        key: 0,
-        offer: Offer::Closed,
     }
 }
 

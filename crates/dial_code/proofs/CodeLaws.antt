@@ -1,24 +1,24 @@
 -- Which words are keys of allowed codes: a word is the key of its digits where no place that holds a digit stands after one
 -- that holds none. Assumes nothing.
 use mathlib.Core.Path.{_≡_, refl, ap, sym, _∙_}
-use mathlib.Core.Bool.{Bool, true, false, cond, _&&_}
+use mathlib.Core.Bool.{Bool, true, false, false≢true, cond, _&&_}
 use mathlib.Core.List.{List, [], _∷_}
 use Prim.Native.Nat.{ℕ, zero, suc, _+_, _-_, _*_, _/_, _%_, _≤_, _<_}
 use native.Mathlib.Omega.{arith}
-use borrow.Author.Tests.{le-leb, eq-eqb, eqb-true}
+use borrow.Author.Tests.{le-leb, eq-eqb, ne-eqb, eqb-true}
 use lib.Dec.{eqb, leb}
 use lib.ListN.{length, take}
 use Rattle.dial_code.specs.Digits.{every, isDigit, isNumber, value}
 use Rattle.dial_code.specs.Key.{key, keyFrom, keysEnd, firstPlace, placesOf, digitsOfKey}
 use Rattle.dial_code.specs.CountryCode.{countryDigits, country, countryOfKey}
-use Rattle.dial_code.specs.Code.{isCode, isCodeKey}
+use Rattle.dial_code.specs.Code.{isCode, isCodeKey, isCodeKeyAfter}
 use Rattle.dial_code.specs.declared.Country.{Country}
 use Rattle.dial_code.specs.declared.Country.the-variants.{Code, None}
 use Rattle.dial_code.proofs.Tests.{both, same-eqb, below, equal, above, order}
 use Rattle.dial_code.proofs.Tests.{and-left-true, and-left-false, and-right-true, and-right-false}
 use Rattle.dial_code.proofs.DigitLaws.{no-digits, zero-first, number-cons, number-facts}
 use Rattle.dial_code.proofs.KeyLaws.{key-shift, digits-back}
-use Rattle.dial_code.proofs.CountryLaws.{places-none, places-some, of-digits, beyond, all-places}
+use Rattle.dial_code.proofs.CountryLaws.{places-none, places-some, of-digits, beyond, all-places, same-country}
 
 -- a word is the key of the digits of its first k places
 abbrev pub keyed : ℕ → ℕ → Bool
@@ -150,6 +150,47 @@ without-country w e =
     code-test w
     ∙ and-right-false (eqb (key ds) w)
     (country-test ds ∙ and-right-false (isNumber ds) (long-test w e))
+
+-- A word after a code's key, by whether it has the key's first three places.
+module _ (k w : ℕ) where
+  pub like-places : k / 3138428376721 ≡ w / 3138428376721 → isCodeKeyAfter k w ≡ eqb (key (placesOf 15 w)) w
+  unfolding isCodeKeyAfter
+  like-places e = rw (eq-eqb (k / 3138428376721) (w / 3138428376721) e)
+
+  pub other-places : (k / 3138428376721 ≡ w / 3138428376721 → ⊥) → isCodeKeyAfter k w ≡ isCodeKey w
+  unfolding isCodeKeyAfter
+  other-places n = rw (ne-eqb (k / 3138428376721) (w / 3138428376721) n)
+
+  -- After the key of an allowed code it is told rightly.
+  pub after-code : isCodeKey k ≡ true → isCodeKeyAfter k w ≡ isCodeKey w
+  after-code t =
+      elim (order (k / 3138428376721) (w / 3138428376721)) [
+        | below l ↦ other-places (λ e. omega arith)
+        | equal e ↦ like-places e ∙ sym (alike e (countryOfKey k) refl)
+        | above l ↦ other-places (λ e. omega arith)
+      ]
+    where
+      no : isCodeKey k ≡ false → ⊥
+      no f = false≢true (sym f ∙ t)
+
+      most : k < keysEnd
+      most = elim (order k keysEnd) [
+        | below l ↦ l
+        | equal l ↦ absurd (no (beyond-keys k (omega arith)))
+        | above l ↦ absurd (no (beyond-keys k (omega arith)))
+      ]
+
+      least : 2 * firstPlace ≤ k
+      least = elim (order k (2 * firstPlace)) [
+        | below l ↦ absurd (no (no-first-digit k l))
+        | equal l ↦ omega arith
+        | above l ↦ omega arith
+      ]
+
+      alike : k / 3138428376721 ≡ w / 3138428376721 → (x : Country) → countryOfKey k ≡ x → isCodeKey w ≡ eqb (key (placesOf 15 w)) w
+      alike e (Code n) c =
+          with-country w n (omega (arith, most, e)) (omega (arith, least, e)) (same-country w k (sym e) ∙ c)
+      alike e None c = absurd (no (without-country k c))
 
 -- An allowed code comes back from its key.
 pub code-back : (ds : List ℕ) → isCode ds ≡ true → digitsOfKey (key ds) ≡ ds

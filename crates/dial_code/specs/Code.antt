@@ -2,12 +2,12 @@
 use mathlib.Core.Path.{_≡_, refl}
 use mathlib.Core.Bool.{Bool, true, false, cond, _&&_}
 use mathlib.Core.List.{List, [], _∷_}
-use Prim.Native.Nat.{ℕ, _+_}
+use Prim.Native.Nat.{ℕ, _+_, _/_, _^_}
 use lib.ListN.{length}
 use lib.Dec.{eqb, leb, ltb}
 use Rattle.refusal.specs.Refusal.{outOfRange, codeNotAllowed}
-use Rattle.dial_code.specs.Digits.{digits, isWritten, isNumber, value}
-use Rattle.dial_code.specs.Key.{key, digitsOfKey, keysEnd}
+use Rattle.dial_code.specs.Digits.{mostDigits, digits, isWritten, isNumber, value}
+use Rattle.dial_code.specs.Key.{key, placesOf, digitsOfKey, keysEnd}
 use Rattle.dial_code.specs.CountryCode.{countryDigits}
 use Rattle.dial_code.specs.declared.Code.{Code}
 use Rattle.dial_code.specs.declared.Keyed.{Keyed}
@@ -22,6 +22,11 @@ isCode ds = isNumber ds && leb (countryDigits ds) (length ds)
 unfoldable pub isCodeKey : ℕ → Bool
 unfolding key digitsOfKey isCode
 isCodeKey w = eqb (key (digitsOfKey w)) w && isCode (digitsOfKey w)
+
+-- The same of a word after a code's key: with the first three places of that key it has its country, and only gaps are left to find.
+unfoldable pub isCodeKeyAfter : ℕ → ℕ → Bool
+unfolding key placesOf isCodeKey
+isCodeKeyAfter k w = cond (eqb (k / 11 ^ 12) (w / 11 ^ 12)) (eqb (key (placesOf mostDigits w)) w) (isCodeKey w)
 
 -- The key of an allowed code sent as a count of digits and a value, or that one is outside its range, or that it is not allowed.
 unfoldable pub sentCodeKey : ℕ → ℕ → Keyed
@@ -68,6 +73,20 @@ code-keys :
     ≡ true ∷ false ∷ false ∷ false ∷ false ∷ false ∷ false ∷ []
 unfolding isCodeKey
 code-keys = refl
+
+-- after 234: 2341, with a gap before the last place, 235, 23, 2; 1 and 2 after 0, whose first three places they do not have
+keys-after :
+    isCodeKeyAfter (key (2 ∷ 3 ∷ 4 ∷ [])) (key (2 ∷ 3 ∷ 4 ∷ 1 ∷ []))
+    ∷ isCodeKeyAfter (key (2 ∷ 3 ∷ 4 ∷ [])) (key (2 ∷ 3 ∷ 4 ∷ []) + 1)
+    ∷ isCodeKeyAfter (key (2 ∷ 3 ∷ 4 ∷ [])) (key (2 ∷ 3 ∷ 5 ∷ []))
+    ∷ isCodeKeyAfter (key (2 ∷ 3 ∷ 4 ∷ [])) (key (2 ∷ 3 ∷ []))
+    ∷ isCodeKeyAfter (key (2 ∷ 3 ∷ 4 ∷ [])) (key (2 ∷ []))
+    ∷ isCodeKeyAfter 0 (key (1 ∷ []))
+    ∷ isCodeKeyAfter 0 (key (2 ∷ []))
+    ∷ []
+    ≡ true ∷ false ∷ true ∷ false ∷ false ∷ true ∷ false ∷ []
+unfolding isCodeKeyAfter
+keys-after = refl
 
 -- 1, 234, 44, fifteen digits; counts of 0 and 16, a value too large for its count; 0, 012, 2, 23
 sent-codes :

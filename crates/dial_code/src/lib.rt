@@ -4,7 +4,7 @@ ghost use Prim.Native.Nat.{_-_, _≤_, _<_, _^_};
 ghost use lib.Dec.{eqb};
 ghost use Rattle.dial_code.specs.Key.{codeKey, numberKey, sentNumberKey, prefixKey, key, placesOf};
 ghost use Rattle.dial_code.specs.CountryCode.{countryOf, countryOfKey, twoDigits};
-ghost use Rattle.dial_code.specs.Code.{isCodeKey, sentCodeKey, codeOf};
+ghost use Rattle.dial_code.specs.Code.{isCodeKey, isCodeKeyAfter, sentCodeKey, codeOf};
 
 // At most so many digits.
 pub const MOST_DIGITS: u64 = 15;
@@ -302,4 +302,14 @@ pub fn is_code_key(word: u64) -> bool
         Country::Code(_) => is_gapless(word),
         Country::None => false,
     }
+}
+
+// Whether a word is the key of an allowed code, told after the key of one: with its first three places the word has its country.
+pub fn is_code_key_after(key: u64, word: u64) -> bool
+    ensures { λ r. ⌜ r ≡ isCodeKeyAfter key word ⌝ }
+{
+    if key / THIRD_PLACE == word / THIRD_PLACE {
+        return is_gapless(word);
+    }
+    is_code_key(word)
 }

@@ -1,5 +1,5 @@
--- are_sound meets its contract. The loop's invariant: all entries are sound where those left are sound after the one before. The
--- measure is the number of entries left. Assumes nothing.
+-- are_sound meets its contract. The loop's invariant: all entries are sound where those left are sound after the one before, which is
+-- of an allowed code. The measure is the number of entries left. Assumes nothing.
 use mathlib.Core.Path.{_≡_, sym, _∙_}
 use Prim.Native.Nat.{_+_, _*_, _≤_}
 use native.Mathlib.Omega.{arith}
@@ -10,6 +10,7 @@ use Rattle.dial_code.proofs.Tests.{and-left-false, and-left-true}
 use Rattle.book.specs.Layout.{headerWords, entryWords, entriesFrom}
 use Rattle.book.specs.Soundness.{soundEntries, soundAfter}
 use Rattle.book.proofs.Rows.{sound-none, sound-first, sound-turn, sound-end}
+use Rattle.book.proofs.SoundLists.{Allowed, begins-facts, follows-facts}
 use Rattle.book.proofs.are_sound.Statement.{statement}
 use Rattle.book.proofs.are_sound.Tie as tie
 
@@ -17,6 +18,7 @@ abbrev Inv-loop : tie.InvT-loop
 Inv-loop words count before₀ at₀ left₀ before at left =
     (at + left * entryWords ≤ length words)
     × (soundEntries (entriesFrom words headerWords count) ≡ soundAfter before (entriesFrom words at left))
+    × Allowed before
 
 abbrev μ-loop : tie.MeasureT-loop
 μ-loop words count before₀ at₀ left₀ before at left = left
@@ -45,17 +47,18 @@ sub-left c = search needs
 
 loop-holds : tie.Need-loop-holds Inv-loop μ-loop
 loop-holds c =
-    let p = c .before .before in (
+    let p = c .before .before in
+    let b = sym (c .before .can-begin .ensures) ∙ not-false _ (c .if2 .left) in (
       omega arith,
-      sound-first _ _ (omega arith) (p .entry-at .ensures)
-          ∙ and-left-true _ (sym (c .before .can-begin .ensures) ∙ not-false _ (c .if2 .left)),
+      sound-first _ _ (omega arith) (p .entry-at .ensures) ∙ and-left-true _ b,
+      begins-facts _ b .1,
     )
 
 entry-at-requires-2 : tie.Need-entry-at-requires-2 Inv-loop μ-loop
 entry-at-requires-2 c κs = search needs
 
 can-follow-requires : tie.Need-can-follow-requires Inv-loop μ-loop
-can-follow-requires c κs = search needs
+can-follow-requires c κs = c .before .before .loop .inv .2 .code
 
 returns-3 : tie.Need-returns-3 Inv-loop μ-loop
 returns-3 c =
@@ -76,11 +79,12 @@ loop-less c = search needs
 
 loop-again : tie.Need-loop-again Inv-loop μ-loop
 loop-again c =
-    let p = c .before .before in (
+    let p = c .before .before in
+    let l = p .before .before .loop in
+    let f = sym (c .before .can-follow .ensures) ∙ not-false _ (c .if3 .left) in (
       omega arith,
-      p .before .before .loop .inv .1
-          ∙ sound-turn _ _ _ _ (p .before .loop-test .taken) (p .entry-at2 .ensures)
-          ∙ and-left-true _ (sym (c .before .can-follow .ensures) ∙ not-false _ (c .if3 .left)),
+      l .inv .1 ∙ sound-turn _ _ _ _ (p .before .loop-test .taken) (p .entry-at2 .ensures) ∙ and-left-true _ f,
+      follows-facts _ _ (l .inv .2) f .1,
     )
 
 returns-4 : tie.Need-returns-4 Inv-loop μ-loop

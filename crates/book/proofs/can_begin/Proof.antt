@@ -2,28 +2,23 @@
 use mathlib.Core.Path.{sym, _∙_}
 use borrow.Author.Needs.{needs}
 use borrow.Author.Tests.{not-true, not-false}
-use Rattle.book.proofs.Rules.{closed-start, out-of-range, by-key}
+use Rattle.book.proofs.Rules.{not-open, by-key}
 use Rattle.book.proofs.can_begin.Statement.{statement}
 use Rattle.book.proofs.can_begin.Tie as tie
 
+can-open-requires : tie.Need-can-open-requires
+can-open-requires c κs = search needs
+
 returns : tie.Need-returns
-returns c = sym (closed-start _ (c .if1 .taken))
-
-in-range-requires : tie.Need-in-range-requires
-in-range-requires c κs = search needs
-
-returns-2 : tie.Need-returns-2
-returns-2 c = sym (out-of-range _ (sym (c .before .in-range .ensures) ∙ not-true _ (c .if2 .taken)))
+returns c = sym (not-open _ (sym (c .before .can-open .ensures) ∙ not-true _ (c .if1 .taken)))
 
 is-code-key-requires : tie.Need-is-code-key-requires
 is-code-key-requires c κs = search needs
 
-returns-3 : tie.Need-returns-3
-returns-3 c =
-    let p = c .before .before in
-    let r = sym (p .in-range .ensures) ∙ not-false _ (c .before .if2 .left) in
-    c .is-code-key .ensures ∙ sym (by-key _ (p .before .if1 .left) r)
+returns-2 : tie.Need-returns-2
+returns-2 c =
+    c .is-code-key .ensures
+    ∙ sym (by-key _ (sym (c .before .before .can-open .ensures) ∙ not-false _ (c .before .if1 .left)))
 
 pub can-begin-spec : {M : Type 1} → statement M
-can-begin-spec =
-    tie.close (tie.spec returns in-range-requires returns-2 is-code-key-requires returns-3)
+can-begin-spec = tie.close (tie.spec can-open-requires returns is-code-key-requires returns-2)

@@ -3,7 +3,9 @@
 use mathlib.Core.Path.{sym, _∙_}
 use native.Mathlib.Omega.{arith}
 use borrow.Author.Needs.{needs}
-use Rattle.book.proofs.Rules.{not-later, repeated, changed, smaller-key, larger-key}
+use borrow.Author.Tests.{not-true, not-false}
+use Rattle.dial_code.proofs.CodeLaws.{after-code}
+use Rattle.book.proofs.Rules.{not-open, by-key, not-later, repeated, changed, smaller-key, larger-key}
 use Rattle.book.proofs.can_follow.Statement.{statement}
 use Rattle.book.proofs.can_follow.Tie as tie
 
@@ -22,13 +24,32 @@ returns-3 c = c .in-range .ensures ∙ sym (changed _ _ (omega arith) (omega ari
 returns-4 : tie.Need-returns-4
 returns-4 c = sym (smaller-key _ _ (c .if4 .taken))
 
-can-begin-requires : tie.Need-can-begin-requires
-can-begin-requires c κs = search needs
+can-open-requires : tie.Need-can-open-requires
+can-open-requires c κs = search needs
 
 returns-5 : tie.Need-returns-5
-returns-5 c = c .can-begin .ensures ∙ sym (larger-key _ _ (omega arith))
+returns-5 c =
+    sym (larger-key _ _ (omega arith) ∙ not-open _ (sym (c .before .can-open .ensures) ∙ not-true _ (c .if5 .taken)))
+
+is-code-key-after-requires : tie.Need-is-code-key-after-requires
+is-code-key-after-requires c κs = search needs
+
+returns-6 : tie.Need-returns-6
+returns-6 c =
+    c .is-code-key-after .ensures
+    ∙ after-code _ _ (c .before .before .before .before .before .before .before .before .before .pre)
+    ∙ sym (larger-key _ _ (omega arith) ∙ by-key _ (sym (c .before .before .can-open .ensures) ∙ not-false _ (c .before .if5 .left)))
 
 pub can-follow-spec : {M : Type 1} → statement M
 can-follow-spec =
     tie.close
-    (tie.spec returns returns-2 in-range-requires returns-3 returns-4 can-begin-requires returns-5)
+    (tie.spec
+    returns
+    returns-2
+    in-range-requires
+    returns-3
+    returns-4
+    can-open-requires
+    returns-5
+    is-code-key-after-requires
+    returns-6)

@@ -3,8 +3,8 @@ use mathlib.Core.Path.{sym, _∙_}
 use borrow.Author.Needs.{needs}
 use borrow.Author.Tests.{not-true, not-false}
 use Rattle.book.proofs.Halving.{no-words, no-header, headed-count}
-use Rattle.book.proofs.headed_count.Statement.{statement}
-use Rattle.book.proofs.headed_count.Tie as tie
+use Rattle.book.proofs.search.headed_count.Statement.{statement}
+use Rattle.book.proofs.search.headed_count.Tie as tie
 
 returns : tie.Need-returns
 returns c = sym (no-words _ (c .if1 .taken))

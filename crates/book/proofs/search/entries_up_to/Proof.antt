@@ -6,8 +6,8 @@ use native.Mathlib.Omega.{arith}
 use borrow.Author.Needs.{needs}
 use Rattle.book.specs.Search.{halved, upTo, foundUpTo}
 use Rattle.book.proofs.Halving.{halving, goes-behind, goes-before, stays, tested}
-use Rattle.book.proofs.entries_up_to.Statement.{statement}
-use Rattle.book.proofs.entries_up_to.Tie as tie
+use Rattle.book.proofs.search.entries_up_to.Statement.{statement}
+use Rattle.book.proofs.search.entries_up_to.Tie as tie
 
 abbrev Inv-loop : tie.InvT-loop
 Inv-loop words count key day lo₀ hi₀ lo hi =

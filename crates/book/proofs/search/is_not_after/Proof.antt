@@ -3,8 +3,8 @@ use mathlib.Core.Path.{sym}
 use native.Mathlib.Omega.{arith}
 use borrow.Author.Tests.{eq-eqb, ne-eqb, lt-ltb, le-ltb}
 use Rattle.book.specs.Search.{notAfter}
-use Rattle.book.proofs.is_not_after.Statement.{statement}
-use Rattle.book.proofs.is_not_after.Tie as tie
+use Rattle.book.proofs.search.is_not_after.Statement.{statement}
+use Rattle.book.proofs.search.is_not_after.Tie as tie
 
 returns : tie.Need-returns
 unfolding notAfter

@@ -13,8 +13,8 @@ use Rattle.book.specs.Status.{standing}
 use Rattle.book.proofs.Halving.{count-room, found-room}
 use Rattle.book.proofs.Matching.{stands, passes, place-key, next-quotient, prefix-most}
 use Rattle.book.proofs.Matching.{starts, no-place, no-entry, passed-by, searched}
-use Rattle.book.proofs.best_offer.Statement.{statement}
-use Rattle.book.proofs.best_offer.Tie as tie
+use Rattle.book.proofs.search.best_offer.Statement.{statement}
+use Rattle.book.proofs.search.best_offer.Tie as tie
 
 abbrev Inv-loop : tie.InvT-loop
 Inv-loop words key day count₀ bound₀ quotient₀ place₀ n₀ count bound quotient place n =

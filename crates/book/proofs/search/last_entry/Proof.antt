@@ -2,8 +2,8 @@
 use mathlib.Core.Path.{sym, _∙_}
 use borrow.Author.Needs.{needs}
 use Rattle.book.proofs.Halving.{no-last, some-last}
-use Rattle.book.proofs.last_entry.Statement.{statement}
-use Rattle.book.proofs.last_entry.Tie as tie
+use Rattle.book.proofs.search.last_entry.Statement.{statement}
+use Rattle.book.proofs.search.last_entry.Tie as tie
 
 returns : tie.Need-returns
 returns c = sym (no-last _ _ (c .if1 .taken))
