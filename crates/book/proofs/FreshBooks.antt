@@ -2,19 +2,20 @@
 -- nothing.
 use mathlib.Core.Path.{_≡_, refl, ap, sym, _∙_}
 use mathlib.Core.Bool.{Bool, true, false, cond}
-use mathlib.Core.List.{List, [], _∷_, append-nil}
-use Prim.Native.Nat.{ℕ, suc, _+_, _-_, _≤_, _<_}
+use mathlib.Core.List.{List, [], _++_, append-nil}
+use Prim.Native.Nat.{ℕ, _+_, _-_, _≤_, _<_}
 use native.Mathlib.Nat.{sub-zero}
 use native.Mathlib.Omega.{arith}
 use borrow.Author.Tests.{le-leb, lt-leb, lt-ltb, le-ltb, ne-eqb, leb-true, ltb-false}
 use lib.Dec.{leb, ltb}
-use lib.ListN.{length, set, replicate, drop-of-length-le, length-replicate}
+use lib.ListN.{length, replicate, drop-of-length-le, length-replicate}
 use lib.Seq.{sets, sets-eq}
 use Rattle.refusal.specs.Refusal.{periodTooLong, bookTooShort}
-use Rattle.book.specs.Layout.{headerWords, mostPeriod, entriesOf}
+use Rattle.book.specs.Layout.{headerWords, mostPeriod, header, wordsOfHeader, entriesOf}
 use Rattle.book.specs.Soundness.{sound}
 use Rattle.book.specs.Answers.{freshRefusal, freshBook, freshWords}
 use Rattle.book.proofs.Rules.{no-entries}
+use Rattle.book.proofs.Places.{drop-replicate}
 use Rattle.book.proofs.BookWords.{entries-back, sound-back}
 
 -- The refusal by the tests of the code.
@@ -50,23 +51,25 @@ all-clear ws =
 
 -- Any other call leaves a book of no entries.
 pub done :
-    (ws : List ℕ) (period : ℕ) {l : List ℕ}
+    (ws : List ℕ) (period : ℕ) {l m : List ℕ}
     → period ≤ mostPeriod
     → headerWords ≤ length ws
     → l ≡ sets ws 0 (replicate (length ws - 0) 0)
-    → (0 ≡ freshRefusal (length ws) period) × (set l 1 period ≡ freshWords ws period)
+    → m ≡ sets l 0 (wordsOfHeader (header 0 period 0 0))
+    → (0 ≡ freshRefusal (length ws) period) × (m ≡ freshWords ws period)
 unfolding freshWords freshBook
-done ws period h m e =
-    let n = not-refused (length ws) period h m in
-    (n, ap (λ (x : List ℕ). set x 1 period) (e ∙ all-clear ws) ∙ rw (sym n) (words ws m))
-  where
-    words : (ws : List ℕ) → headerWords ≤ length ws → set (replicate (length ws) 0) 1 period ≡ freshBook (length ws) period
-    words (a ∷ []) l = absurd (omega arith)
-    words (a ∷ b ∷ []) l = absurd (omega arith)
-    words (a ∷ b ∷ k ∷ []) l = absurd (omega arith)
-    words (a ∷ b ∷ k ∷ d ∷ ws) l =
-        let n : suc (suc (suc (suc (length ws)))) - 4 ≡ length ws = omega arith in
-        rw n
+done ws period h s e f =
+    let n = not-refused (length ws) period h s in
+    let head = wordsOfHeader (header 0 period 0 0) in
+    let zeros : List ℕ = replicate (length ws) 0 in
+    let long : length zeros ≡ length ws = length-replicate (length ws) 0 in (
+      n,
+      f
+          ∙ ap (λ (x : List ℕ). sets x 0 head) (e ∙ all-clear ws)
+          ∙ sets-eq head zeros 0 (omega arith)
+          ∙ ap (λ (x : List ℕ). head ++ x) (drop-replicate headerWords (length ws) 0)
+          ∙ rw (sym n),
+    )
 
 -- A fresh book that is not refused is the words left: a sound book of the length lent, with no entries, all of it closed.
 module _ (len period : ℕ) (e : freshRefusal len period ≡ 0) where

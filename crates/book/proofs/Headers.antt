@@ -1,16 +1,17 @@
 -- What a sound header and a sound book tell, each as one record, and the entries held. Assumes nothing.
-use mathlib.Core.Path.{_≡_, sym, _∙_}
-use mathlib.Core.Bool.{true}
+use mathlib.Core.Path.{_≡_, refl, sym, _∙_}
+use mathlib.Core.Bool.{Bool, true, false, cond, _&&_}
 use mathlib.Core.List.{List}
-use Prim.Native.Nat.{ℕ, _+_, _*_, _≤_}
+use Prim.Native.Nat.{ℕ, _+_, _-_, _*_, _≤_, _<_}
 use native.Mathlib.Omega.{arith}
-use borrow.Author.Tests.{le-leb, leb-true}
+use borrow.Author.Tests.{le-leb, lt-leb, leb-true}
+use lib.Dec.{leb}
 use lib.ListN.{length, drop}
-use Rattle.dial_code.proofs.Tests.{both}
+use Rattle.dial_code.proofs.Tests.{both, and-right-false}
 use Rattle.rate.specs.Time.{lastDay, lastReceivedDay}
 use Rattle.book.specs.Layout.{headerWords, entryWords, mostPeriod}
 use Rattle.book.specs.Layout.{mostEntries, countOf, periodOf, receivedOf, latestOf, held, entriesOf}
-use Rattle.book.specs.Soundness.{soundEntries, allZero, soundHeader, sound}
+use Rattle.book.specs.Soundness.{soundEntries, allZero, soundHeader, headedCount, sound}
 use Rattle.book.proofs.Rules.{header-test, sound-test, by-latest, by-rest}
 
 -- So many entries are held where there are at most the most entries, and words for all of them.
@@ -75,3 +76,39 @@ pub book-sound :
     → allZero (drop (headerWords + countOf ws * entryWords) ws) ≡ true
     → sound ws ≡ true
 book-sound ws l n p r e s u = by-rest ws l (by-latest ws n p r ∙ le-leb _ _ e) s ∙ u
+
+-- The entries that a header counts, by the tests of the code; there are words for all of them, and they are not too many.
+module _ (ws : List ℕ) where
+  pub headed-count : headerWords ≤ length ws → soundHeader ws ≡ true → headedCount ws ≡ countOf ws
+  unfolding headedCount
+  headed-count l h = rw (le-leb headerWords (length ws) l, h)
+
+  pub no-words : length ws < headerWords → headedCount ws ≡ 0
+  unfolding headedCount
+  no-words h = rw (lt-leb headerWords (length ws) h)
+
+  pub no-header : soundHeader ws ≡ false → headedCount ws ≡ 0
+  unfolding headedCount
+  no-header h = rw (and-right-false (leb headerWords (length ws)) h)
+
+  pub count-room : (headedCount ws * entryWords ≤ length ws - headerWords) × (headedCount ws ≤ mostEntries)
+  unfolding headedCount
+  count-room = go (leb headerWords (length ws)) refl (soundHeader ws) refl
+    where
+      go :
+          (t : Bool)
+          → leb headerWords (length ws) ≡ t
+          → (u : Bool)
+          → soundHeader ws ≡ u
+          → (cond (t && u) (countOf ws) 0 * entryWords ≤ length ws - headerWords) × (cond (t && u) (countOf ws) 0 ≤ mostEntries)
+      go true p true q =
+          let h = headed ws (leb-true headerWords (length ws) p) q in
+          (omega (arith, h .room), h .count-most)
+      go true p false q = (omega arith, omega arith)
+      go false p u q = (omega arith, omega arith)
+
+-- In a sound book they are all.
+pub sound-count : (ws : List ℕ) → sound ws ≡ true → headedCount ws ≡ countOf ws
+sound-count ws s =
+    let a = both _ _ (sym (sound-test ws) ∙ s) in
+    headed-count ws (leb-true headerWords (length ws) (a .0)) (both _ _ (a .1) .0)

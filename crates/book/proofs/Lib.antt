@@ -1,12 +1,11 @@
--- The laws of books: their words, soundness, statuses and lookups.
+-- The laws of books: their words, soundness and statuses.
 pub mod Rules
 pub mod Rows
+pub mod Places
 pub mod Headers
 pub mod FreshBooks
-pub mod Halving
 pub mod SoundLists
 pub mod Statuses
-pub mod Matching
-pub mod Lookups
+pub mod Usable
 pub mod BookWords
 pub mod Unique

@@ -1,19 +1,13 @@
 -- What the calls on a book answer and leave (document 01, "Who can cause a refusal": the orders).
 use mathlib.Core.Path.{_≡_, refl}
 use mathlib.Core.Bool.{cond}
-use mathlib.Core.List.{List, [], _∷_, map}
+use mathlib.Core.List.{List, [], _∷_}
 use Prim.Native.Nat.{ℕ}
 use lib.Dec.{eqb, leb, ltb}
 use lib.ListN.{length}
-use Rattle.refusal.specs.Refusal.{bookTooShort, bookNotSound, periodTooLong, notANumber, timeOutOfRange}
-use Rattle.dial_code.specs.Digits.{digitOf, isDialled}
-use Rattle.rate.specs.Time.{isDay}
-use Rattle.rate.specs.declared.Day.{Day}
-use Rattle.book.specs.Layout.{headerWords, mostPeriod, entriesOf, bookOf}
+use Rattle.refusal.specs.Refusal.{bookTooShort, bookNotSound, periodTooLong}
+use Rattle.book.specs.Layout.{headerWords, mostPeriod, bookOf}
 use Rattle.book.specs.Soundness.{sound}
-use Rattle.book.specs.Status.{offerIn, matched}
-use Rattle.book.specs.declared.Lookup.{Lookup}
-use Rattle.book.specs.declared.Lookup.the-variants.{Found, Refused}
 
 -- A fresh book: 22, then 20; a book of no entries.
 unfoldable pub freshRefusal : ℕ → ℕ → ℕ
@@ -32,16 +26,6 @@ freshWords ws period = cond (eqb (freshRefusal (length ws) period) 0) (freshBook
 unfoldable pub bookRefusal : List ℕ → ℕ
 unfolding sound
 bookRefusal ws = cond (ltb (length ws) headerWords) bookTooShort (cond (sound ws) 0 bookNotSound)
-
--- The answer to a number on a day: 20, 21, 40, 41, else the offer by longest match.
-unfoldable pub lookup : List ℕ → List ℕ → Day → Lookup
-unfolding bookRefusal isDialled matched offerIn entriesOf
-lookup ws number day =
-    cond (eqb (bookRefusal ws) 0)
-    (cond (isDialled number)
-    (cond (isDay day) (Found (matched (λ k. offerIn (entriesOf ws) k (day .0)) (map digitOf number))) (Refused timeOutOfRange))
-    (Refused notANumber))
-    (Refused (bookRefusal ws))
 
 fresh : freshRefusal 4 365 ∷ freshRefusal 3 365 ∷ freshRefusal 3 366 ∷ freshRefusal 4 366 ∷ [] ≡ 0 ∷ 20 ∷ 22 ∷ 22 ∷ []
 unfolding freshRefusal

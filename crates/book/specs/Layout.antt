@@ -5,6 +5,7 @@ use mathlib.Core.List.{List, [], _∷_, _++_}
 use Prim.Native.Nat.{ℕ, zero, suc, _+_, _-_, _*_, _/_, min}
 use lib.ListN.{length, getD, replicate}
 use Rattle.book.specs.declared.Entry.{Entry}
+use Rattle.book.specs.declared.Header.{Header}
 
 -- words before the entries, words an entry, and the most entries a book holds
 abbrev pub headerWords : ℕ
@@ -31,6 +32,15 @@ receivedOf ws = getD ws 2 0
 
 abbrev pub latestOf : List ℕ → ℕ
 latestOf ws = getD ws 3 0
+
+abbrev pub header : ℕ → ℕ → ℕ → ℕ → Header
+header count period received latest = record { count = count; period = period; received = received; latest = latest }
+
+abbrev pub headerOf : List ℕ → Header
+headerOf ws = header (countOf ws) (periodOf ws) (receivedOf ws) (latestOf ws)
+
+abbrev pub wordsOfHeader : Header → List ℕ
+wordsOfHeader h = h .count ∷ h .period ∷ h .received ∷ h .latest ∷ []
 
 abbrev pub entry : ℕ → ℕ → ℕ → Entry
 entry k d o = record { key = k; day = d; offer = o }
@@ -61,7 +71,8 @@ wordsOf (e ∷ es) = e .key ∷ e .day ∷ e .offer ∷ wordsOf es
 unfoldable pub bookOf : ℕ → ℕ → ℕ → ℕ → List Entry → List ℕ
 unfolding wordsOf
 bookOf len period received latest es =
-    length es ∷ period ∷ received ∷ latest ∷ (wordsOf es ++ replicate (len - (headerWords + length es * entryWords)) 0)
+    wordsOfHeader (header (length es) period received latest)
+    ++ (wordsOf es ++ replicate (len - (headerWords + length es * entryWords)) 0)
 
 -- three words short of an entry, one entry exactly, two words over; the most entries
 holds : held 0 ∷ held 6 ∷ held 7 ∷ held 9 ∷ held 196609 ∷ held 1000000 ∷ [] ≡ 0 ∷ 0 ∷ 1 ∷ 1 ∷ 65535 ∷ 65535 ∷ []

@@ -1,6 +1,5 @@
--- The rules of the book: its words, soundness, statuses and lookups.
+-- The rules of the book: its words, soundness, statuses, and what keeps it from being used.
 pub mod Layout
 pub mod Soundness
 pub mod Status
-pub mod Search
 pub mod Answers

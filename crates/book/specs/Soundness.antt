@@ -70,6 +70,11 @@ sound ws =
     leb headerWords (length ws)
     && (soundHeader ws && (soundEntries (entriesOf ws) && allZero (drop (headerWords + countOf ws * entryWords) ws)))
 
+-- How many entries a header counts: none where the words have no sound header.
+unfoldable pub headedCount : List ℕ → ℕ
+unfolding soundHeader
+headedCount ws = cond (leb headerWords (length ws) && soundHeader ws) (countOf ws) 0
+
 -- a fresh book, P1's book, and books broken in one word each: a count too large, a period, a day, a code not allowed, an entry's
 -- day, an offer word, a closed start, an unused word
 k1 : ℕ
@@ -102,3 +107,16 @@ broken :
     ≡ false ∷ false ∷ false ∷ false ∷ false ∷ false ∷ false ∷ false ∷ false ∷ false ∷ false ∷ false ∷ []
 unfolding sound k1 key isCodeKey offerOf
 broken = refl
+
+-- no word, no entry, three words; P1's entry under a count of 2, and under a period of 366; P1's book
+counts :
+    headedCount []
+    ∷ headedCount (0 ∷ 7 ∷ 0 ∷ 0 ∷ [])
+    ∷ headedCount (1 ∷ 7 ∷ 100 ∷ [])
+    ∷ headedCount (2 ∷ 7 ∷ 100 ∷ 100 ∷ k1 ∷ 100 ∷ 589824000259 ∷ [])
+    ∷ headedCount (1 ∷ 366 ∷ 100 ∷ 100 ∷ k1 ∷ 100 ∷ 589824000259 ∷ [])
+    ∷ headedCount (1 ∷ 7 ∷ 100 ∷ 100 ∷ k1 ∷ 100 ∷ 589824000259 ∷ [])
+    ∷ []
+    ≡ 0 ∷ 0 ∷ 0 ∷ 0 ∷ 0 ∷ 1 ∷ []
+unfolding headedCount k1 key
+counts = refl

@@ -1,4 +1,4 @@
--- The status of a code on a day, and the offer for a number by longest match (document 01, "The plain machine" and "The book").
+-- The status of a code on a day (document 01, "The plain machine" and "The book").
 use mathlib.Core.Path.{_≡_, refl}
 use mathlib.Core.Bool.{Bool, true, false, cond, _&&_}
 use mathlib.Core.List.{List, [], _∷_}
@@ -14,7 +14,6 @@ use Rattle.rate.specs.declared.Stored.{Stored}
 use Rattle.rate.specs.declared.Stored.the-variants.{Holds, Invalid}
 use Rattle.book.specs.Layout.{entry}
 use Rattle.book.specs.declared.Entry.{Entry}
-use Rattle.book.specs.declared.Answer.{Answer}
 
 -- The offer word of a code on a day: that of the last of its entries not after the day, and `so far` where there is none.
 unfoldable pub statusFrom : ℕ → List Entry → ℕ → ℕ → ℕ
@@ -35,31 +34,6 @@ unfoldable pub offerIn : List Entry → ℕ → ℕ → Offer
 unfolding statusIn
 offerIn es k d = heldOffer (offerOf (statusIn es k d))
 
-abbrev pub answer : ℕ → Offer → Answer
-answer k o = record { key = k; offer = o }
-
--- open or blocked
-abbrev pub isStanding : Offer → Bool
-isStanding Closed = false
-isStanding Blocked = true
-isStanding (Open r first next) = true
-
--- A status that is open or blocked is the answer, with its key; else the answer is another.
-abbrev pub standing : Offer → ℕ → Answer → Answer
-standing Closed k other = other
-standing Blocked k other = answer k Blocked
-standing (Open r first next) k other = answer k (Open r first next)
-
--- The longest of a number's first n beginnings whose status, by key, is open or blocked; else closed with key 0.
-unfoldable pub longest : (ℕ → Offer) → List ℕ → ℕ → Answer
-longest status ds zero = answer 0 Closed
-longest status ds (suc n) = standing (status (key (take (suc n) ds))) (key (take (suc n) ds)) (longest status ds n)
-
--- The answer to a number, from the statuses of codes.
-unfoldable pub matched : (ℕ → Offer) → List ℕ → Answer
-unfolding longest
-matched status ds = longest status ds (length ds)
-
 -- 23480 open from day 100 to 109, 2348 blocked from day 105 on
 some : List Entry
 some =
@@ -78,19 +52,3 @@ days :
     ≡ 0 ∷ 259 ∷ 259 ∷ 0 ∷ 0 ∷ []
 unfolding some statusIn key
 days = refl
-
-matches :
-    matched (λ k. offerIn some k 99) (2 ∷ 3 ∷ 4 ∷ 8 ∷ 0 ∷ 6 ∷ [])
-    ∷ matched (λ k. offerIn some k 105) (2 ∷ 3 ∷ 4 ∷ 8 ∷ 0 ∷ 6 ∷ [])
-    ∷ matched (λ k. offerIn some k 105) (2 ∷ 3 ∷ 4 ∷ 8 ∷ 1 ∷ [])
-    ∷ matched (λ k. offerIn some k 110) (2 ∷ 3 ∷ 4 ∷ 8 ∷ 0 ∷ [])
-    ∷ matched (λ k. offerIn some k 110) (2 ∷ 3 ∷ [])
-    ∷ []
-    ≡ answer 0 Closed
-    ∷ answer (key (2 ∷ 3 ∷ 4 ∷ 8 ∷ 0 ∷ [])) (Open (rate 0) 1 1)
-    ∷ answer (key (2 ∷ 3 ∷ 4 ∷ 8 ∷ [])) Blocked
-    ∷ answer (key (2 ∷ 3 ∷ 4 ∷ 8 ∷ [])) Blocked
-    ∷ answer 0 Closed
-    ∷ []
-unfolding some matched offerIn key offerOf
-matches = refl

@@ -1,72 +1,48 @@
-// The book (document 01, "The book"): a lent slice of 64-bit words, whatever it holds.
+// The book (document 01, "The book"): a lent slice of 64-bit words, whatever it holds. When it is sound, and what keeps it from
+// being used.
 ghost use mathlib.Core.Path.{_≡_};
-ghost use mathlib.Core.Bool.{true, not, _&&_};
-ghost use Prim.Native.Nat.{_+_, _-_, _*_, _≤_};
+ghost use mathlib.Core.Bool.{not, _&&_};
+ghost use Prim.Native.Nat.{_+_, _*_, _≤_};
+ghost use mathlib.Core.Bool.{true};
 ghost use lib.Dec.{eqb};
-ghost use lib.ListN.{length, drop, replicate};
-ghost use lib.Seq.{sets};
+ghost use lib.ListN.{length, drop};
 ghost use Rattle.dial_code.specs.Code.{isCodeKey};
-ghost use Rattle.book.specs.Layout.{headerWords, entryWords, entryAt, entriesFrom, held};
-ghost use Rattle.book.specs.Soundness.{isOfferWord, inRange, begins, follows, soundEntries, allZero, soundHeader, sound};
-ghost use Rattle.book.specs.Answers.{freshRefusal, freshWords, bookRefusal, lookup};
+ghost use Rattle.book.specs.Layout.{headerWords, entryWords, countOf, entriesFrom};
+ghost use Rattle.book.specs.Soundness.{isOfferWord, inRange, begins, follows, soundEntries, allZero, soundHeader, headedCount, sound};
+ghost use Rattle.book.specs.Answers.{freshRefusal, freshWords, bookRefusal};
 
-mod search;
+mod words;
 
-use dial_code::Keyed;
 use rate::Day;
-use rate::Offer;
 use rate::Stored;
-pub use search::best_offer;
+pub use words::clear;
+pub use words::entries_held;
+pub use words::entry_at;
+pub use words::header_of;
+pub use words::write_entry;
+pub use words::write_header;
 
 pub const HEADER_WORDS: usize = 4;
 
 pub const ENTRY_WORDS: usize = 3;
 
-const MOST_ENTRIES: usize = 65_535;
+pub const MOST_ENTRIES: usize = 65_535;
 
 const MOST_PERIOD: u64 = 365;
+
+// The words before the entries: how many entries there are, the notice period, the last received day and the latest effective day.
+pub struct Header {
+    pub count: u64,
+    pub period: u64,
+    pub received: u64,
+    pub latest: u64,
+}
 
 // An entry of a book: a code's key, a day, and the offer word of the code from that day on.
 pub struct Entry {
     pub key: u64,
     pub day: u64,
     pub offer: u64,
-}
-
-// The answer to a number: the matched key, 0 for none, and the offer.
-pub struct Answer {
-    pub key: u64,
-    pub offer: Offer,
-}
-
-pub enum Lookup {
-    Found(Answer),
-    Refused(u64),
-}
-
-fn entry_at(words: &[u64], at: usize) -> Entry
-    requires { ⌜ at + entryWords ≤ length (now words) ⌝ }
-    ensures { λ r. ⌜ r ≡ entryAt (now (words .entry)) at ⌝ }
-{
-    Entry {
-        key: words[at],
-        day: words[at + 1],
-        offer: words[at + 2],
-    }
-}
-
-// How many entries a book of so many words can hold.
-pub fn entries_held(len: usize) -> usize
-    ensures { λ r. ⌜ r ≡ held len ⌝ }
-{
-    if len < HEADER_WORDS {
-        return 0;
-    }
-    let n = (len - HEADER_WORDS) / ENTRY_WORDS;
-    if MOST_ENTRIES < n {
-        return MOST_ENTRIES;
-    }
-    n
 }
 
 fn is_offer_word(word: u64) -> bool
@@ -139,14 +115,14 @@ fn are_sound(words: &[u64], count: usize) -> bool
     if count == 0 {
         return true;
     }
-    let mut before = entry_at(words, HEADER_WORDS);
+    let mut before = words::entry_at(words, HEADER_WORDS);
     if !can_begin(before) {
         return false;
     }
     let mut at = HEADER_WORDS + ENTRY_WORDS;
     let mut left = count - 1;
     while 0 < left {
-        let e = entry_at(words, at);
+        let e = words::entry_at(words, at);
         if !can_follow(before, e) {
             return false;
         }
@@ -171,24 +147,45 @@ fn is_clear(words: &[u64], from: usize) -> bool
     true
 }
 
+// Whether the header words are in range, and so many entries held.
 fn is_headed(words: &[u64]) -> bool
-    requires { ⌜ headerWords ≤ length (now words) ⌝ }
     ensures { λ r. ⌜ r ≡ soundHeader (now (words .entry)) ⌝ }
 {
-    if (entries_held(words.len()) as u64) < words[0] {
+    let h = header_of(words);
+    if (entries_held(words.len()) as u64) < h.count {
         return false;
     }
-    if MOST_PERIOD < words[1] {
+    if MOST_PERIOD < h.period {
         return false;
     }
-    if Day::LAST_RECEIVED.0 < words[2] {
+    if Day::LAST_RECEIVED.0 < h.received {
         return false;
     }
-    words[3] <= Day::LAST.0
+    h.latest <= Day::LAST.0
+}
+
+fn counted(words: &[u64]) -> u64
+    ensures { λ r. ⌜ r ≡ countOf (now (words .entry)) ⌝ }
+{
+    let h = header_of(words);
+    h.count
+}
+
+// How many entries the header counts: none where it is not sound.
+pub fn headed_count(words: &[u64]) -> usize
+    ensures { λ r. ⌜ r ≡ headedCount (now (words .entry)) ⌝ }
+{
+    if words.len() < HEADER_WORDS {
+        return 0;
+    }
+    if !is_headed(words) {
+        return 0;
+    }
+    counted(words) as usize
 }
 
 // Whether a book is sound, in one pass over its words.
-pub fn is_sound(words: &[u64]) -> bool
+fn is_sound(words: &[u64]) -> bool
     ensures { λ r. ⌜ r ≡ sound (now (words .entry)) ⌝ }
 {
     if words.len() < HEADER_WORDS {
@@ -197,7 +194,7 @@ pub fn is_sound(words: &[u64]) -> bool
     if !is_headed(words) {
         return false;
     }
-    let count = words[0] as usize;
+    let count = counted(words) as usize;
     if !are_sound(words, count) {
         return false;
     }
@@ -229,36 +226,12 @@ pub fn fresh(words: &mut [u64], period: u64) -> u64
         return refusal::BOOK_TOO_SHORT;
     }
     clear(words, 0);
-    words[1] = period;
+    let header = Header {
+        count: 0,
+        period,
+        received: 0,
+        latest: 0,
+    };
+    write_header(words, header);
     0
-}
-
-// Sets every word from a place on to 0.
-pub fn clear(words: &mut [u64], from: usize)
-    ensures { λ _. ⌜ now (words .exit) ≡ sets (now (words .entry)) from (replicate (length (now (words .entry)) - from) 0) ⌝ }
-{
-    let mut i = from;
-    while i < words.len() {
-        words[i] = 0;
-        i += 1;
-    }
-}
-
-// What a number costs on a day: 20, 21, 40, 41, else the answer by longest match.
-pub fn look_up(words: &[u64], number: &[u8], day: Day) -> Lookup
-    ensures { λ r. ⌜ r ≡ lookup (now (words .entry)) (now (number .entry)) day ⌝ }
-{
-    let e = book_refusal(words);
-    if e != 0 {
-        return Lookup::Refused(e);
-    }
-    match dial_code::number_key(number) {
-        Keyed::Refused(e) => Lookup::Refused(e),
-        Keyed::Key(key) => {
-            if !day.in_range() {
-                return Lookup::Refused(refusal::TIME_OUT_OF_RANGE);
-            }
-            Lookup::Found(best_offer(words, key, day.0))
-        }
-    }
 }

@@ -9,9 +9,10 @@ use Rattle.dial_code.specs.Key.{key, digitsOfKey}
 use Rattle.rate.specs.declared.Offer.{Offer}
 use Rattle.book.specs.Layout.{periodOf, receivedOf, latestOf, entriesOf}
 use Rattle.book.specs.Soundness.{sound}
-use Rattle.book.specs.Status.{statusIn, offerIn, matched}
-use Rattle.book.specs.Search.{bestFound}
-use Rattle.book.proofs.Matching as matching
+use Rattle.book.specs.Status.{statusIn, offerIn}
+use Rattle.lookup.specs.Match.{matched}
+use Rattle.lookup.specs.Search.{bestFound}
+use Rattle.lookup.proofs.Matching as matching
 use Rattle.book.proofs.Unique as unique
 
 pub best-found :

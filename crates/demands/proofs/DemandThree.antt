@@ -17,8 +17,9 @@ use Rattle.notice.specs.NoticeRule.{Notice, notice, readNotice, full}
 use Rattle.notice.specs.declared.Line.{Line}
 use Rattle.book.specs.Layout.{periodOf, receivedOf, held, entriesOf}
 use Rattle.book.specs.Soundness.{sound}
-use Rattle.book.specs.Answers.{freshRefusal, freshBook, lookup}
-use Rattle.book.specs.declared.Lookup.the-variants.{Found}
+use Rattle.book.specs.Answers.{freshRefusal, freshBook}
+use Rattle.lookup.specs.Lookup.{lookup}
+use Rattle.lookup.specs.declared.Lookup.the-variants.{Found}
 use Rattle.history.specs.Effect.{namedBy}
 use Rattle.history.specs.ChangeDays.{changeDays}
 use Rattle.history.specs.Machine.{known, lastReceived, words, answerOf}

@@ -25,9 +25,10 @@ use Rattle.rate.specs.declared.Day.{Day}
 use Rattle.rate.specs.declared.Offer.the-variants.{Closed}
 use Rattle.book.specs.Layout.{headerWords, held, entriesOf}
 use Rattle.book.specs.Soundness.{sound}
-use Rattle.book.specs.Status.{answer}
-use Rattle.book.specs.Answers.{freshRefusal, freshBook, bookRefusal, lookup}
-use Rattle.book.specs.declared.Lookup.the-variants.{Found}
+use Rattle.lookup.specs.Match.{answer}
+use Rattle.book.specs.Answers.{freshRefusal, freshBook, bookRefusal}
+use Rattle.lookup.specs.Lookup.{lookup}
+use Rattle.lookup.specs.declared.Lookup.the-variants.{Found}
 use Rattle.history.specs.Applying.{applyRefusal, applied}
 use Rattle.rating.specs.Call.{rateCall}
 use Rattle.rating.specs.Batch.{rowWords, dialledAs, rowOf, callWords, rowsOf}

@@ -22,7 +22,8 @@ use Rattle.notice.specs.declared.Line.{Line}
 use Rattle.notice.proofs.NoticeLaws.{notice-valid}
 use Rattle.book.specs.Layout.{periodOf, receivedOf, held, entriesOf}
 use Rattle.book.specs.Soundness.{sound}
-use Rattle.book.specs.Answers.{freshRefusal, freshBook, lookup}
+use Rattle.book.specs.Answers.{freshRefusal, freshBook}
+use Rattle.lookup.specs.Lookup.{lookup}
 use Rattle.book.proofs.BookWords.{entries-back}
 use Rattle.history.specs.Effect.{Known, namedBy, afterNotice}
 use Rattle.history.specs.ChangeDays.{changeDays}

@@ -28,13 +28,15 @@ use Rattle.notice.proofs.LinesLaws.{ValidFrom}
 use Rattle.notice.proofs.NoticeLaws.{Valid}
 use Rattle.book.specs.Layout.{headerWords, periodOf, held}
 use Rattle.book.specs.Soundness.{sound}
-use Rattle.book.specs.Status.{matched}
-use Rattle.book.specs.Answers.{bookRefusal, lookup}
-use Rattle.book.specs.declared.Lookup.the-variants.{Found}
+use Rattle.lookup.specs.Match.{matched}
+use Rattle.book.specs.Answers.{bookRefusal}
+use Rattle.lookup.specs.Lookup.{lookup}
+use Rattle.lookup.specs.declared.Lookup.the-variants.{Found}
 use Rattle.book.proofs.Headers.{sound-book}
 use Rattle.book.proofs.BookWords.{entries-back, sound-back}
-use Rattle.book.proofs.Matching.{statusOn, matched-alike}
-use Rattle.book.proofs.Lookups.{usable-book, usable-sound, no-number, no-day, answered}
+use Rattle.lookup.proofs.Matching.{statusOn, matched-alike}
+use Rattle.book.proofs.Usable.{usable-book, usable-sound}
+use Rattle.lookup.proofs.Lookups.{no-number, no-day, answered}
 use Rattle.history.specs.Effect.{Known, unlisted, Change, from, nothing, lineFor, sameCountry, namedBy, inCountry, closes}
 use Rattle.history.specs.Effect.{closing, listedChange, changeOf, changed}
 use Rattle.history.specs.Applying.{inBook, afterBook, newEntries, readBy, applyRefusal, newBook}

@@ -17,12 +17,14 @@ use Rattle.rate.specs.declared.Day.{Day}
 use Rattle.notice.specs.NoticeRule.{Notice, Reading, notice, unread, readNotice}
 use Rattle.book.specs.Layout.{headerWords, held, entriesOf, bookOf, periodOf, receivedOf}
 use Rattle.book.specs.Soundness.{sound}
-use Rattle.book.specs.Status.{statusIn, offerIn, matched}
-use Rattle.book.specs.Answers.{freshRefusal, freshBook, bookRefusal, lookup}
+use Rattle.book.specs.Status.{statusIn, offerIn}
+use Rattle.lookup.specs.Match.{matched}
+use Rattle.book.specs.Answers.{freshRefusal, freshBook, bookRefusal}
+use Rattle.lookup.specs.Lookup.{lookup}
 use Rattle.book.specs.declared.Entry.{Entry}
-use Rattle.book.specs.declared.Lookup.the-variants.{Found}
+use Rattle.lookup.specs.declared.Lookup.the-variants.{Found}
 use Rattle.book.proofs.Headers.{sound-book}
-use Rattle.book.proofs.Lookups.{usable-book}
+use Rattle.book.proofs.Usable.{usable-book}
 use Rattle.book.proofs.BookWords.{entries-back, sound-back}
 use Rattle.book.proofs.FreshBooks.{fresh-sound, fresh-entries}
 use Rattle.notice.proofs.NoticeLaws.{notice-refusals}

@@ -10,8 +10,8 @@ use Rattle.rate.specs.Time.{isDay}
 use Rattle.rate.specs.declared.Day.{Day}
 use Rattle.notice.specs.NoticeRule.{Notice, Reading, notice, unread, readNotice}
 use Rattle.book.specs.Layout.{entriesOf}
-use Rattle.book.specs.Answers.{lookup}
-use Rattle.book.specs.declared.Lookup.the-variants.{Found}
+use Rattle.lookup.specs.Lookup.{lookup}
+use Rattle.lookup.specs.declared.Lookup.the-variants.{Found}
 use Rattle.history.specs.ChangeDays.{changeDays}
 use Rattle.history.specs.Machine.{known, words, answers, answerOf}
 use Rattle.history.specs.Applying.{applyRefusal, applied}

@@ -16,7 +16,7 @@ use Rattle.rate.specs.declared.Offer.the-variants.{Closed, Blocked, Open}
 use Rattle.notice.specs.LineRule.{lineOf}
 use Rattle.notice.specs.NoticeRule.{Notice, full, partial, update, replacement}
 use Rattle.notice.specs.declared.Line.{Line}
-use Rattle.book.specs.Status.{longest, matched}
+use Rattle.lookup.specs.Match.{longest, matched}
 
 -- What the notices before give: the status of each code, by its key, on each day, and the latest effective day of their lines.
 pub record Known : Type 0 where

@@ -11,8 +11,8 @@ use Rattle.rate.specs.declared.Offer.{Offer}
 use Rattle.rate.specs.declared.Offer.the-variants.{Closed}
 use Rattle.notice.specs.NoticeRule.{Notice, Reading, notice, unread, readNotice}
 use Rattle.book.specs.Layout.{headerWords, held}
-use Rattle.book.specs.Status.{matched}
-use Rattle.book.specs.declared.Answer.{Answer}
+use Rattle.lookup.specs.Match.{matched}
+use Rattle.lookup.specs.declared.Answer.{Answer}
 use Rattle.history.specs.Effect.{Known, afterNotice}
 use Rattle.history.specs.ChangeDays.{changeDays}
 

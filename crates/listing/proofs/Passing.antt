@@ -15,7 +15,8 @@ use Rattle.rate.specs.declared.Stored.the-variants.{Holds, Invalid}
 use Rattle.rate.proofs.Words.{only-word}
 use Rattle.notice.specs.declared.Line.{Line}
 use Rattle.book.specs.Soundness.{isHeld, isOfferWord}
-use Rattle.book.specs.Status.{statusFrom, statusIn, heldOffer, offerIn, isStanding}
+use Rattle.book.specs.Status.{statusFrom, statusIn, heldOffer, offerIn}
+use Rattle.lookup.specs.Match.{isStanding}
 use Rattle.book.specs.declared.Entry.{Entry}
 use Rattle.book.proofs.SoundLists.{After, same, next, Allowed, SoundFrom, Sound, after-key}
 use Rattle.book.proofs.Statuses.{smaller, begins-later}

@@ -17,7 +17,7 @@ use Rattle.notice.specs.declared.Line.{Line}
 use Rattle.notice.proofs.NoticeBack.{notice-back}
 use Rattle.book.specs.Layout.{entriesOf}
 use Rattle.book.specs.Answers.{bookRefusal}
-use Rattle.book.proofs.Lookups.{usable-sound}
+use Rattle.book.proofs.Usable.{usable-sound}
 use Rattle.listing.specs.List.{standingLines, standingNotice, listOf, listRefusal, listed, listAnswer, listBytes}
 use Rattle.listing.proofs.Validity.{list-valid}
 use Rattle.listing.proofs.Answering.{accepted}

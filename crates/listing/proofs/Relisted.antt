@@ -17,11 +17,13 @@ use Rattle.rate.specs.declared.Offer.the-variants.{Closed}
 use Rattle.notice.specs.NoticeRule.{Notice, Reading, notice, readNotice}
 use Rattle.notice.specs.Layout.{encodeNotice}
 use Rattle.book.specs.Layout.{headerWords, held, entriesOf}
-use Rattle.book.specs.Status.{offerIn, answer, longest, matched}
+use Rattle.book.specs.Status.{offerIn}
+use Rattle.lookup.specs.Match.{answer, longest, matched}
 use Rattle.dial_code.specs.Digits.{isDialled}
-use Rattle.book.specs.Answers.{freshRefusal, freshBook, bookRefusal, lookup}
-use Rattle.book.specs.declared.Lookup.the-variants.{Found}
-use Rattle.book.proofs.Lookups.{answered}
+use Rattle.book.specs.Answers.{freshRefusal, freshBook, bookRefusal}
+use Rattle.lookup.specs.Lookup.{lookup}
+use Rattle.lookup.specs.declared.Lookup.the-variants.{Found}
+use Rattle.lookup.proofs.Lookups.{answered}
 use Rattle.history.specs.ChangeDays.{changeDays}
 use Rattle.history.specs.Machine.{known, words, answers, answerOf}
 use Rattle.history.specs.Applying.{applyRefusal, applied}

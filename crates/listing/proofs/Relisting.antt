@@ -20,12 +20,13 @@ use Rattle.notice.specs.declared.Line.{Line}
 use Rattle.notice.proofs.LinesLaws.{ValidFrom}
 use Rattle.book.specs.Layout.{entry, entriesOf}
 use Rattle.book.specs.Answers.{bookRefusal}
-use Rattle.book.specs.Status.{statusFrom, statusIn, heldOffer, offerIn, isStanding}
+use Rattle.book.specs.Status.{statusFrom, statusIn, heldOffer, offerIn}
+use Rattle.lookup.specs.Match.{isStanding}
 use Rattle.book.specs.declared.Entry.{Entry}
 use Rattle.book.proofs.SoundLists.{next, SoundFrom, Sound, to-sound}
 use Rattle.book.proofs.Statuses.{smaller, other-key, begins-later, starts-closed}
 use Rattle.book.proofs.Unique.{unique}
-use Rattle.book.proofs.Lookups.{usable-sound}
+use Rattle.book.proofs.Usable.{usable-sound}
 use Rattle.history.specs.Effect.{Known, Listing, listed, unlisted, lineFor, effective, outOfSequence, isIncrease}
 use Rattle.history.specs.Effect.{noticed, wanted, closes, closing}
 use Rattle.history.specs.Effect.{listedChange, changeOf, changed}

@@ -20,7 +20,8 @@ use Rattle.notice.specs.NoticeRule.{full, Notice}
 use Rattle.notice.specs.Layout.{encodeNotice}
 use Rattle.notice.specs.declared.Line.{Line}
 use Rattle.book.specs.Layout.{entriesOf}
-use Rattle.book.specs.Status.{offerIn, isStanding}
+use Rattle.book.specs.Status.{offerIn}
+use Rattle.lookup.specs.Match.{isStanding}
 use Rattle.book.specs.Answers.{bookRefusal}
 use Rattle.book.specs.declared.Entry.{Entry}
 use Rattle.listing.specs.declared.Listed.{Listed}

@@ -9,9 +9,9 @@ use Rattle.rate.specs.declared.Moment.{Moment}
 use Rattle.rate.specs.declared.Offer.{Offer}
 use Rattle.rate.specs.declared.Offer.the-variants.{Closed, Blocked, Open}
 use Rattle.book.specs.Layout.{headerWords, entryWords, mostEntries, held}
-use Rattle.book.specs.Status.{answer}
-use Rattle.book.specs.declared.Lookup.{Lookup}
-use Rattle.book.specs.declared.Lookup.the-variants.{Found, Refused}
+use Rattle.lookup.specs.Match.{answer}
+use Rattle.lookup.specs.declared.Lookup.{Lookup}
+use Rattle.lookup.specs.declared.Lookup.the-variants.{Found, Refused}
 use Rattle.history.specs.declared.Applied.{Applied}
 use Rattle.rating.specs.declared.Call.{Call}
 use Rattle.rating.specs.declared.Batch.{Batch}

@@ -2,14 +2,15 @@
 // 64-bit numbers. include/rate_book.h declares them.
 ghost use mathlib.Core.Path.{_≡_};
 ghost use lib.ListN.{length};
-ghost use Rattle.book.specs.Answers.{freshRefusal, freshWords, lookup};
+ghost use Rattle.book.specs.Answers.{freshRefusal, freshWords};
+ghost use Rattle.lookup.specs.Lookup.{lookup};
 ghost use Rattle.history.specs.Applying.{applyAnswer, applied};
 ghost use Rattle.rating.specs.Call.{rateCall};
 ghost use Rattle.rating.specs.Batch.{batchAnswer, batchRows};
 ghost use Rattle.listing.specs.List.{listAnswer, listBytes};
 ghost use Rattle.rate_book.specs.Exported.{day as dayAt, moment as momentAt, wordsFor, appliedOf, answerOf, offerOf, callOf, batchOf, listOf};
-use book::Answer;
-use book::Lookup;
+use lookup::Answer;
+use lookup::Lookup;
 use history::Applied;
 use listing::Listed;
 use rate::Day;
@@ -187,7 +188,7 @@ pub extern "C" fn rate_book_apply(old: &[u64], notice: &[u8], new: &mut [u64]) -
 pub extern "C" fn rate_book_lookup(book: &[u64], number: &[u8], day: u64) -> RateBookOffer
     ensures { λ r. ⌜ r ≡ offerOf (lookup (now (book .entry)) (now (number .entry)) (dayAt day)) ⌝ }
 {
-    offer_of(book::look_up(book, number, Day(day)))
+    offer_of(lookup::look_up(book, number, Day(day)))
 }
 
 // Rates one call: 20, 21, 40 to 44.

@@ -17,7 +17,7 @@ use Rattle.book.specs.Soundness.{sound}
 use Rattle.book.specs.Answers.{bookRefusal}
 use Rattle.book.specs.declared.Entry.{Entry}
 use Rattle.book.proofs.Headers.{sound-book, held-fits}
-use Rattle.book.proofs.Lookups.{usable-book}
+use Rattle.book.proofs.Usable.{usable-book}
 use Rattle.history.specs.Applying.{inBook, afterBook, newEntries, judgedBy, applyRefusal, refusedApply, applyAnswer, applied}
 use Rattle.history.specs.declared.Applied.{Applied}
 use Rattle.update.specs.Plans.{planOf, marksFor, linesIn, linesRead, sentLines, mergedBy, latestBy}

@@ -17,7 +17,7 @@ use Rattle.dial_code.specs.declared.Country.{Country}
 use Rattle.dial_code.specs.declared.Country.the-variants.{Code, None}
 use Rattle.dial_code.proofs.Tests.{both, and-left-true}
 use Rattle.dial_code.proofs.DigitLaws.{value-below}
-use Rattle.book.proofs.Matching.{word-digits}
+use Rattle.lookup.proofs.Matching.{word-digits}
 use Rattle.notice.specs.NoticeRule.{Notice, partial}
 use Rattle.notice.specs.declared.Line.{Line}
 use Rattle.notice.specs.declared.Summary.{Summary}

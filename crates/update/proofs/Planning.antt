@@ -20,8 +20,9 @@ use Rattle.rate.specs.declared.Offer.the-variants.{Open}
 use Rattle.notice.specs.declared.Line.{Line}
 use Rattle.notice.specs.declared.Summary.{Summary}
 use Rattle.book.specs.Layout.{entry, entriesOf}
-use Rattle.book.specs.Status.{offerIn, matched}
-use Rattle.book.specs.declared.Answer.{Answer}
+use Rattle.book.specs.Status.{offerIn}
+use Rattle.lookup.specs.Match.{matched}
+use Rattle.lookup.specs.declared.Answer.{Answer}
 use Rattle.history.specs.Effect.{Known, above, increases}
 use Rattle.history.specs.Applying.{inBook}
 use Rattle.update.specs.Plans.{earliestWanted, planOf, wantedBy, effectiveBy, changeBy, closesIn, closesBy}

@@ -108,7 +108,7 @@ fn is_increase(old: &[u64], key: u64, day: u64, offer: Offer) -> bool
             first: _,
             next: _,
         } => {
-            let answer = book::best_offer(old, key, day);
+            let answer = lookup::best_offer(old, key, day);
             let before = answer.offer;
             match before {
                 Offer::Closed => false,

@@ -23,7 +23,8 @@ use Rattle.notice.specs.NoticeRule.{readLines, readNotice}
 use Rattle.notice.specs.declared.Line.{Line}
 use Rattle.book.specs.Layout.{entry}
 use Rattle.book.specs.Soundness.{soundEntries}
-use Rattle.book.specs.Status.{statusIn, matched}
+use Rattle.book.specs.Status.{statusIn}
+use Rattle.lookup.specs.Match.{matched}
 use Rattle.book.specs.declared.Entry.{Entry}
 use Rattle.book.proofs.SoundLists.{to-sound}
 use Rattle.book.proofs.Unique.{unique}

@@ -26,8 +26,8 @@ use Rattle.notice.specs.NoticeRule.{Reading, notice, isCountryCode, readCountry
 use Rattle.notice.specs.NoticeRule.{readLines, readNotice}
 use Rattle.notice.specs.declared.Line.{Line}
 use Rattle.book.specs.Layout.{entry}
-use Rattle.book.specs.Status.{answer, matched}
-use Rattle.book.specs.declared.Answer.{Answer}
+use Rattle.lookup.specs.Match.{answer, matched}
+use Rattle.lookup.specs.declared.Answer.{Answer}
 use Rattle.book.specs.declared.Entry.{Entry}
 use Rattle.history.specs.Effect.{someEarlier, effective, lineFor, namedBy, closes, closing, changeOf, latestEffective}
 use Rattle.history.specs.ChangeDays.{changeDays}

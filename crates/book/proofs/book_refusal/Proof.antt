@@ -1,7 +1,7 @@
 -- book_refusal meets its contract: 20 for too few words, 21 for a book that is not sound. Assumes nothing.
 use mathlib.Core.Path.{sym, _∙_}
 use borrow.Author.Needs.{needs}
-use Rattle.book.proofs.Lookups.{short-book, unsound-book, usable-book}
+use Rattle.book.proofs.Usable.{short-book, unsound-book, usable-book}
 use Rattle.book.proofs.book_refusal.Statement.{statement}
 use Rattle.book.proofs.book_refusal.Tie as tie
 

@@ -14,15 +14,17 @@ returns-2 c = refused _ _ _ (few-words _ _ (c .before .if1 .left) (c .if2 .taken
 clear-requires : tie.Need-clear-requires
 clear-requires c κs = search needs
 
-slice-write-words : tie.Need-slice-write-words
-slice-write-words c = search needs
+write-header-requires : tie.Need-write-header-requires
+write-header-requires c κs = search needs
 
 same-length : tie.Need-same-length
 same-length c = search needs
 
 returns-3 : tie.Need-returns-3
-returns-3 c = done _ _ (omega arith) (omega arith) (c .before .before .clear .ensures)
+returns-3 c =
+    let a = c .before .before .before .before .before .before .before .before .before .before .before .args in
+    done (a .words .now) (a .period) (omega arith) (omega arith) (c .before .before .before .before .before .before .clear .ensures) (c .before .before .write-header .ensures)
 
 pub fresh-spec : {M : Type 1} → statement M
 fresh-spec =
-    tie.close (tie.spec returns returns-2 clear-requires slice-write-words same-length returns-3)
+    tie.close (tie.spec returns returns-2 clear-requires write-header-requires same-length returns-3)

@@ -1,9 +1,12 @@
 -- is_sound meets its contract: header, entries and unused words in turn. Assumes nothing.
-use mathlib.Core.Path.{ap, sym, _∙_}
+use mathlib.Core.Path.{_≡_, ap, sym, _∙_}
 use native.Mathlib.Omega.{arith}
 use borrow.Author.Needs.{needs}
 use borrow.Author.Tests.{not-true, not-false}
-use Rattle.book.specs.Soundness.{soundEntries}
+use Prim.Native.Nat.{ℕ, _+_, _*_}
+use lib.ListN.{drop}
+use Rattle.book.specs.Layout.{headerWords, entryWords, entriesFrom, entriesOf}
+use Rattle.book.specs.Soundness.{soundEntries, allZero}
 use Rattle.book.proofs.Rules.{too-short, bad-header, bad-entries, by-rest}
 use Rattle.book.proofs.Rows.{of-book}
 use Rattle.book.proofs.Headers.{Headed, headed}
@@ -25,11 +28,19 @@ returns-2 : tie.Need-returns-2
 returns-2 c =
     sym (bad-header _ (c .before .before .if1 .left) (sym (c .before .is-headed .ensures) ∙ not-true _ (c .if2 .taken)))
 
-shared-slice-read-count : tie.Need-shared-slice-read-count
-shared-slice-read-count c = search needs
+counted-requires : tie.Need-counted-requires
+counted-requires c κs = search needs
 
 are-sound-requires : tie.Need-are-sound-requires
-are-sound-requires c κs = head (c .before) .room
+are-sound-requires c κs = omega (arith, head (c .before) .room, c .counted .ensures)
+
+-- the entries are as many as the header counts
+as-counted : (c : tie.After-counted) →
+    let ws = c .before .before .before .before .before .args .words .now in
+    soundEntries (entriesOf ws) ≡ soundEntries (entriesFrom ws headerWords (c .counted .result))
+as-counted c =
+    let ws = c .before .before .before .before .before .args .words .now in
+    ap soundEntries (of-book ws ∙ ap (entriesFrom ws headerWords) (sym (c .counted .ensures)))
 
 returns-3 : tie.Need-returns-3
 returns-3 c =
@@ -38,13 +49,13 @@ returns-3 c =
     (bad-entries _
     (p .before .before .if1 .left)
     (sym (p .before .is-headed .ensures) ∙ not-false _ (p .if2 .left))
-    (ap soundEntries (of-book _) ∙ sym (c .before .are-sound .ensures) ∙ not-true _ (c .if3 .taken)))
+    (as-counted (c .before .before) ∙ sym (c .before .are-sound .ensures) ∙ not-true _ (c .if3 .taken)))
 
 mul-is-clear : tie.Need-mul-is-clear
-mul-is-clear c = omega (arith, head (c .before .before .before) .room)
+mul-is-clear c = omega (arith, head (c .before .before .before) .room, c .before .before .counted .ensures)
 
 add-is-clear : tie.Need-add-is-clear
-add-is-clear c = omega (arith, head (c .before .before .before) .room)
+add-is-clear c = omega (arith, head (c .before .before .before) .room, c .before .before .counted .ensures)
 
 is-clear-requires : tie.Need-is-clear-requires
 is-clear-requires c κs = search needs
@@ -53,11 +64,12 @@ returns-4 : tie.Need-returns-4
 returns-4 c =
     let p = c .before .before .before .before in
     c .is-clear .ensures
+    ∙ ap (λ (n : ℕ). allZero (drop (headerWords + n * entryWords) (c .before .before .before .before .before .before .before .before .args .words .now))) (c .before .before .before .counted .ensures)
     ∙ sym
     (by-rest _
     (p .before .before .if1 .left)
     (sym (p .before .is-headed .ensures) ∙ not-false _ (p .if2 .left))
-    (ap soundEntries (of-book _) ∙ sym (c .before .before .are-sound .ensures) ∙ not-false _ (c .before .if3 .left)))
+    (as-counted (c .before .before .before) ∙ sym (c .before .before .are-sound .ensures) ∙ not-false _ (c .before .if3 .left)))
 
 pub is-sound-spec : {M : Type 1} → statement M
 is-sound-spec =
@@ -66,7 +78,7 @@ is-sound-spec =
     returns
     is-headed-requires
     returns-2
-    shared-slice-read-count
+    counted-requires
     are-sound-requires
     returns-3
     mul-is-clear

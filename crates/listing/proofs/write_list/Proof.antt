@@ -9,7 +9,7 @@ use Rattle.listing.proofs.write_list.Statement.{statement}
 use Rattle.listing.proofs.write_list.Tie as tie
 use Rattle.rate.specs.Time.{isReceivedDay}
 use Rattle.book.specs.Answers.{bookRefusal}
-use Rattle.book.proofs.Lookups.{usable-sound}
+use Rattle.book.proofs.Usable.{usable-sound}
 use borrow.Author.Tests.{not-true, not-false, leb-true, leb-false}
 use Rattle.listing.proofs.Answering.{no-book, no-day, no-line, no-room, has-room, refused, done}
 use Rattle.dial_code.proofs.Tests.{positive}

@@ -1,7 +1,7 @@
 -- `update::is_increase` meets its contract: an open offer is held against the best offer before. Assumes nothing.
 use mathlib.Core.Path.{_∙_}
 use borrow.Author.Needs.{needs}
-use Rattle.book.proofs.Matching.{best-found}
+use Rattle.lookup.proofs.Matching.{best-found}
 use Rattle.update.proofs.Planning.{above-best}
 use Rattle.update.proofs.is_increase.Statement.{statement}
 use Rattle.update.proofs.is_increase.Tie as tie

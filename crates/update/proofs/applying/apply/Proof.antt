@@ -3,7 +3,7 @@
 use mathlib.Core.Path.{sym, _∙_}
 use native.Mathlib.Omega.{arith}
 use borrow.Author.Needs.{needs}
-use Rattle.book.proofs.Lookups.{usable-sound}
+use Rattle.book.proofs.Usable.{usable-sound}
 use Rattle.update.proofs.Answering.{refuses, no-old, no-new, refuses-notice}
 use Rattle.update.proofs.applying.apply.Statement.{statement}
 use Rattle.update.proofs.applying.apply.Tie as tie

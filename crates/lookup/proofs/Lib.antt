@@ -1,0 +1,4 @@
+-- The laws of lookups.
+pub mod Halving
+pub mod Matching
+pub mod Lookups
