@@ -9,8 +9,9 @@ use borrow.Author.Tests.{le-leb, eq-eqb, ne-eqb, eqb-true}
 use lib.Dec.{eqb, leb}
 use lib.ListN.{length, take}
 use Rattle.dial_code.specs.Digits.{every, isDigit, isNumber, value}
-use Rattle.dial_code.specs.Key.{key, keyFrom, keysEnd, firstPlace, placesOf, digitsOfKey}
+use Rattle.dial_code.specs.Key.{key, keyFrom, keysEnd, firstPlace, thirdPlace, placesOf, digitsOfKey, isGapless}
 use Rattle.dial_code.specs.CountryCode.{countryDigits, country, countryOfKey}
+use Rattle.dial_code.specs.Stretches.{samePlaces}
 use Rattle.dial_code.specs.Code.{isCode, isCodeKey, isCodeKeyAfter}
 use Rattle.dial_code.specs.declared.Country.{Country}
 use Rattle.dial_code.specs.declared.Country.the-variants.{Code, None}
@@ -19,10 +20,6 @@ use Rattle.dial_code.proofs.Tests.{and-left-true, and-left-false, and-r
 use Rattle.dial_code.proofs.DigitLaws.{no-digits, zero-first, number-cons, number-facts}
 use Rattle.dial_code.proofs.KeyLaws.{key-shift, digits-back}
 use Rattle.dial_code.proofs.CountryLaws.{places-none, places-some, of-digits, beyond, all-places, same-country}
-
--- a word is the key of the digits of its first k places
-abbrev pub keyed : ℕ → ℕ → Bool
-keyed k w = eqb (key (placesOf k w)) w
 
 key-empty : key [] ≡ 0
 unfolding key
@@ -59,13 +56,15 @@ digits-places (suc k) w h =
       | above l ↦ absurd (omega arith)
     ]
 
--- A word is the key of its digits or not: none is left to read, and one place more.
-pub no-more : (k w : ℕ) → placesOf k w ≡ [] → keyed k w ≡ eqb w 0
+-- Whether a word has no gap: none of its places is left to read, and one place more.
+pub no-more : (k w : ℕ) → placesOf k w ≡ [] → isGapless k w ≡ eqb w 0
+unfolding isGapless
 no-more k w e =
     let z : key (placesOf k w) ≡ 0 = ap key e ∙ key-empty in
     same-eqb (key (placesOf k w)) w w 0 (λ p. sym p ∙ z) (λ p. z ∙ sym p)
 
-pub one-more : (k w : ℕ) → k < 15 → firstPlace ≤ w → keyed (suc k) w ≡ keyed k (w % firstPlace * 11)
+pub one-more : (k w : ℕ) → k < 15 → firstPlace ≤ w → isGapless (suc k) w ≡ isGapless k (w % firstPlace * 11)
+unfolding isGapless
 one-more k w l h =
     let p : placesOf (suc k) w ≡ (w / firstPlace - 1) ∷ rest = places-some k w (omega arith) in
     let q : key (placesOf (suc k) w) ≡ (w / firstPlace - 1 + 1) * firstPlace + keyFrom 2 rest =
@@ -134,12 +133,13 @@ pub with-country :
     → w < keysEnd
     → 2 * firstPlace ≤ w
     → countryOfKey w ≡ Code n
-    → isCodeKey w ≡ eqb (key (placesOf 15 w)) w
+    → isCodeKey w ≡ isGapless 15 w
+unfolding isGapless
 with-country w n h l e =
     let d = digits-places 15 w h in
     let p : placesOf 15 w ≡ (w / firstPlace - 1) ∷ placesOf 14 (w % firstPlace * 11) = places-some 14 w (omega arith) in
     let m : isNumber (digitsOfKey w) ≡ true =
-    ap isNumber (all-places w h ∙ p) ∙ number-cons _ _ (omega arith) (rw p at d) (length-places 14 _) in
+    ap isNumber (all-places w h ∙ p) ∙ number-cons _ _ (omega arith) (rw p at d) (length-places 14 (w % firstPlace * 11)) in
     code-test w
     ∙ and-right-true _ (country-test (digitsOfKey w) ∙ and-left-true _ m ∙ long-test w e)
     ∙ ap (λ (ds : List ℕ). eqb (key ds) w) (all-places w h)
@@ -153,18 +153,18 @@ without-country w e =
 
 -- A word after a code's key, by whether it has the key's first three places.
 module _ (k w : ℕ) where
-  pub like-places : k / 3138428376721 ≡ w / 3138428376721 → isCodeKeyAfter k w ≡ eqb (key (placesOf 15 w)) w
-  unfolding isCodeKeyAfter
-  like-places e = rw (eq-eqb (k / 3138428376721) (w / 3138428376721) e)
+  pub like-places : k / thirdPlace ≡ w / thirdPlace → isCodeKeyAfter k w ≡ isGapless 15 w
+  unfolding isCodeKeyAfter samePlaces
+  like-places e = rw (eq-eqb (k / thirdPlace) (w / thirdPlace) e)
 
-  pub other-places : (k / 3138428376721 ≡ w / 3138428376721 → ⊥) → isCodeKeyAfter k w ≡ isCodeKey w
-  unfolding isCodeKeyAfter
-  other-places n = rw (ne-eqb (k / 3138428376721) (w / 3138428376721) n)
+  pub other-places : (k / thirdPlace ≡ w / thirdPlace → ⊥) → isCodeKeyAfter k w ≡ isCodeKey w
+  unfolding isCodeKeyAfter samePlaces
+  other-places n = rw (ne-eqb (k / thirdPlace) (w / thirdPlace) n)
 
   -- After the key of an allowed code it is told rightly.
   pub after-code : isCodeKey k ≡ true → isCodeKeyAfter k w ≡ isCodeKey w
   after-code t =
-      elim (order (k / 3138428376721) (w / 3138428376721)) [
+      elim (order (k / thirdPlace) (w / thirdPlace)) [
         | below l ↦ other-places (λ e. omega arith)
         | equal e ↦ like-places e ∙ sym (alike e (countryOfKey k) refl)
         | above l ↦ other-places (λ e. omega arith)
@@ -187,7 +187,7 @@ module _ (k w : ℕ) where
         | above l ↦ omega arith
       ]
 
-      alike : k / 3138428376721 ≡ w / 3138428376721 → (x : Country) → countryOfKey k ≡ x → isCodeKey w ≡ eqb (key (placesOf 15 w)) w
+      alike : k / thirdPlace ≡ w / thirdPlace → (x : Country) → countryOfKey k ≡ x → isCodeKey w ≡ isGapless 15 w
       alike e (Code n) c =
           with-country w n (omega (arith, most, e)) (omega (arith, least, e)) (same-country w k (sym e) ∙ c)
       alike e None c = absurd (no (without-country k c))

@@ -1,23 +1,22 @@
 -- The key of a code sent as a count of digits and a value, one digit at a time from the last, and its country. Assumes nothing.
-use mathlib.Core.Path.{_≡_, refl, ap, sym, _∙_}
-use mathlib.Core.Bool.{Bool, true, false, cond}
+use mathlib.Core.Path.{_≡_, ap, sym, _∙_}
+use mathlib.Core.Bool.{true}
 use mathlib.Core.List.{List, [], _∷_, _++_}
 use Prim.Native.Nat.{ℕ, zero, suc, _+_, _-_, _*_, _/_, _%_, _^_, _≤_, _<_}
 use native.Mathlib.Nat.{pow-suc, pow-succ', pow-le-pow-right, one-le-pow}
 use native.Mathlib.Nat.{div-one, div-eq-of-lt, div-div-eq-div-mul, div-lt-iff-lt-mul}
 use native.Mathlib.Omega.{arith}
-use borrow.Author.Tests.{leb-true, lt-leb, le-leb, lt-ltb, le-ltb}
-use lib.Dec.{leb, lit<}
+use borrow.Author.Tests.{lt-leb, le-leb, lt-ltb, le-ltb}
+use lib.Dec.{lit<}
 use lib.ListN.{length}
 use Rattle.refusal.specs.Refusal.{outOfRange}
-use Rattle.dial_code.specs.Digits.{every, isDigit, digits, isWritten}
+use Rattle.dial_code.specs.Digits.{every, isDigit, digits}
 use Rattle.dial_code.specs.Key.{keyFrom, key, codeKey}
-use Rattle.dial_code.specs.CountryCode.{country, countryOf, countryOfKey}
-use Rattle.dial_code.specs.declared.Country.the-variants.{None}
+use Rattle.dial_code.specs.CountryCode.{country, countryOfKey}
 use Rattle.dial_code.specs.declared.Keyed.the-variants.{Key, Refused}
 use Rattle.dial_code.proofs.DigitLaws.{length-digits, digits-last, digits-are}
 use Rattle.dial_code.proofs.KeyLaws.{below-end, digits-back}
-use Rattle.dial_code.proofs.Tests.{both, below, equal, above, order}
+use Rattle.dial_code.proofs.Tests.{below, equal, above, order}
 
 key-last : (i d : ℕ) (ds : List ℕ) → keyFrom i (ds ++ (d ∷ [])) ≡ keyFrom i ds + (d + 1) * 11 ^ (15 - (i + length ds))
 unfolding keyFrom
@@ -110,29 +109,3 @@ all-weighed (suc k) v weighed e h = absurd (omega arith)
 pub country-of-key : (ds : List ℕ) → every isDigit ds ≡ true → length ds ≤ 15 → countryOfKey (key ds) ≡ country ds
 unfolding countryOfKey
 country-of-key ds e h = ap country (digits-back ds e h)
-
-module _ (count v : ℕ) where
-  written : isWritten count v ≡ true → count ≤ 15
-  unfolding isWritten
-  written e = leb-true count 15 (both (leb count 15) _ (both (leb 1 count) _ e .1) .0)
-
-  pub keyed-country : (k : ℕ) → codeKey count v ≡ Key k → countryOf count v ≡ countryOfKey k
-  unfolding codeKey countryOf
-  keyed-country k e = go (isWritten count v) refl e
-    where
-      go : (t : Bool) → isWritten count v ≡ t → cond t (Key (key (digits count v))) (Refused outOfRange) ≡ Key k
-          → cond t (country (digits count v)) None ≡ countryOfKey k
-      go true q r =
-          let s : key (digits count v) ≡ k = cc in
-          let l : length (digits count v) ≤ 15 = rw (length-digits count v) (written q) in
-          sym (country-of-key (digits count v) (digits-are count v) l) ∙ ap countryOfKey s
-      go false q r = let z : _≡_ {A = ℕ} 0 1 = cc in absurd (omega arith)
-
-  pub refused-country : (e : ℕ) → codeKey count v ≡ Refused e → countryOf count v ≡ None
-  unfolding codeKey countryOf
-  refused-country e p = go (isWritten count v) p
-    where
-      go : (t : Bool) → cond t (Key (key (digits count v))) (Refused outOfRange) ≡ Refused e
-          → cond t (country (digits count v)) None ≡ None
-      go true r = let z : _≡_ {A = ℕ} 0 1 = cc in absurd (omega arith)
-      go false r = refl

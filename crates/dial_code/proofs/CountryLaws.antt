@@ -7,7 +7,7 @@ use native.Mathlib.Omega.{arith}
 use borrow.Author.Tests.{lt-ltb, le-ltb, le-leb, eq-eqb, ne-eqb, eqb-true, eqb-false}
 use lib.Dec.{eqb}
 use lib.ListN.{length}
-use Rattle.dial_code.specs.Key.{keysEnd, firstPlace, placesOf, digitsOfKey}
+use Rattle.dial_code.specs.Key.{keysEnd, firstPlace, thirdPlace, placesOf, digitsOfKey}
 use Rattle.dial_code.specs.CountryCode.{oneDigit, twoDigits, country, countryOfKey}
 use Rattle.dial_code.specs.declared.Country.{Country}
 use Rattle.dial_code.specs.declared.Country.the-variants.{Code, None}
@@ -43,13 +43,13 @@ places-some k w h = rw (ne-eqb (w / firstPlace) 0 (λ (e : w / firstPlace ≡ 0)
 
 -- The first three places of a word.
 abbrev pub first : ℕ → ℕ
-first w = w / 3138428376721 / 121
+first w = w / thirdPlace / 121
 
 abbrev pub second : ℕ → ℕ
-second w = w / 3138428376721 / 11 % 11
+second w = w / thirdPlace / 11 % 11
 
 abbrev pub third : ℕ → ℕ
-third w = w / 3138428376721 % 11
+third w = w / thirdPlace % 11
 
 first-place : (w : ℕ) → first w ≡ w / firstPlace
 first-place w = omega arith
@@ -204,7 +204,7 @@ module _ (w : ℕ) (h : w < keysEnd) where
   from-places = by-places _ _ _ _ _ _ refl refl refl refl refl refl
 
 -- Keys with the same first three places have the same country.
-pub same-country : (w v : ℕ) → w / 3138428376721 ≡ v / 3138428376721 → countryOfKey w ≡ countryOfKey v
+pub same-country : (w v : ℕ) → w / thirdPlace ≡ v / thirdPlace → countryOfKey w ≡ countryOfKey v
 same-country w v e =
     elim (order w keysEnd) [
       | below h ↦

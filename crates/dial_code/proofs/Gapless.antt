@@ -5,13 +5,9 @@ use Prim.Native.Nat.{ℕ, suc, _+_, _-_, _*_, _/_, _%_, _≤_, _<_}
 use native.Mathlib.Omega.{arith}
 use borrow.Author.Tests.{eq-eqb, ne-eqb, le-leb, lt-leb, ltb-true, ltb-false}
 use lib.Dec.{eqb, leb, ltb}
-use Rattle.dial_code.specs.Key.{firstPlace, placesOf}
+use Rattle.dial_code.specs.Key.{firstPlace, thirdPlace, placesOf, isGapless}
 use Rattle.dial_code.proofs.CountryLaws.{places-none}
-use Rattle.dial_code.proofs.CodeLaws.{keyed, no-more, one-more}
-
--- the weight of the third place
-abbrev thirdPlace : ℕ
-thirdPlace = 3138428376721
+use Rattle.dial_code.proofs.CodeLaws.{no-more, one-more}
 
 -- a word without its first place, the places after it moved up
 abbrev up : ℕ → ℕ
@@ -19,14 +15,14 @@ up w = w % firstPlace * 11
 
 -- Which of the first three places is the first to hold no digit, if one does, and what is left to show.
 data Three (n w : ℕ) : Type 0 where
-  no-first : w < firstPlace → keyed (n * 3) w ≡ eqb w 0 → Three n w
-  no-second : firstPlace ≤ w → up w < firstPlace → keyed (n * 3) w ≡ eqb (up w) 0 → Three n w
-  no-third : firstPlace ≤ w → firstPlace ≤ up w → up (up w) < firstPlace → keyed (n * 3) w ≡ eqb (up (up w)) 0 → Three n w
+  no-first : w < firstPlace → isGapless (n * 3) w ≡ eqb w 0 → Three n w
+  no-second : firstPlace ≤ w → up w < firstPlace → isGapless (n * 3) w ≡ eqb (up w) 0 → Three n w
+  no-third : firstPlace ≤ w → firstPlace ≤ up w → up (up w) < firstPlace → isGapless (n * 3) w ≡ eqb (up (up w)) 0 → Three n w
   all-three :
       firstPlace ≤ w
       → firstPlace ≤ up w
       → firstPlace ≤ up (up w)
-      → keyed (n * 3) w ≡ keyed ((n - 1) * 3) (up (up (up w)))
+      → isGapless (n * 3) w ≡ isGapless ((n - 1) * 3) (up (up (up w)))
       → Three n w
 
 -- Without its first place a word keeps its second and third, and what is behind them; without its second, its third.
@@ -61,15 +57,15 @@ module _ (x m u : ℕ) (e : u ≡ x * firstPlace + m * 121) where
   one-none : x ≡ 0 → m * 1331 ≡ 0 → u ≡ 0
   one-none t r = omega arith
 
-ended : (k w : ℕ) → w < firstPlace → keyed (suc k) w ≡ eqb w 0
+ended : (k w : ℕ) → w < firstPlace → isGapless (suc k) w ≡ eqb w 0
 ended k w h = no-more (suc k) w (places-none k w (omega arith))
 
 module _ (n w : ℕ) (h : 0 < n) (l : n ≤ 5) where
   three : Three n w
   three = go (ltb w firstPlace) refl (ltb (up w) firstPlace) refl (ltb (up (up w)) firstPlace) refl
     where
-      f : keyed (n * 3) w ≡ keyed (suc (suc (suc ((n - 1) * 3)))) w
-      f = ap (λ (j : ℕ). keyed j w) (omega arith)
+      f : isGapless (n * 3) w ≡ isGapless (suc (suc (suc ((n - 1) * 3)))) w
+      f = ap (λ (j : ℕ). isGapless j w) (omega arith)
 
       go : (a : Bool) → ltb w firstPlace ≡ a
           → (b : Bool)
@@ -95,7 +91,7 @@ module _ (n w : ℕ) (h : 0 < n) (l : n ≤ 5) where
           (f ∙ one-more _ w (omega arith) x ∙ one-more _ (up w) (omega arith) y ∙ one-more _ (up (up w)) (omega arith) z)
 
   -- The third place holds none: nothing may follow, and the first holds one or none of the three does.
-  pub more-behind : w / thirdPlace % 11 ≡ 0 → (w % thirdPlace * 1331 ≡ 0 → ⊥) → keyed (n * 3) w ≡ false
+  pub more-behind : w / thirdPlace % 11 ≡ 0 → (w % thirdPlace * 1331 ≡ 0 → ⊥) → isGapless (n * 3) w ≡ false
   more-behind t r =
       elim three [
         | no-first a e ↦ e ∙ ne-eqb w 0 (λ z. r (omega arith))
@@ -104,7 +100,7 @@ module _ (n w : ℕ) (h : 0 < n) (l : n ≤ 5) where
         | all-three a b c e ↦ absurd (omega arith)
       ]
 
-  pub nothing-left : w % thirdPlace * 1331 ≡ 0 → w / thirdPlace ≡ 0 → keyed (n * 3) w ≡ true
+  pub nothing-left : w % thirdPlace * 1331 ≡ 0 → w / thirdPlace ≡ 0 → isGapless (n * 3) w ≡ true
   nothing-left r t =
       elim three [
         | no-first a e ↦ e ∙ eq-eqb w 0 (omega arith)
@@ -117,7 +113,7 @@ module _ (n w : ℕ) (h : 0 < n) (l : n ≤ 5) where
       w / thirdPlace % 11 ≡ 0
       → w % thirdPlace * 1331 ≡ 0
       → (w / thirdPlace ≡ 0 → ⊥)
-      → keyed (n * 3) w ≡ leb 121 (w / thirdPlace)
+      → isGapless (n * 3) w ≡ leb 121 (w / thirdPlace)
   ends-here t r s =
       elim three [
         | no-first a e ↦ rw (lt-leb 121 (w / thirdPlace) (omega arith)) (e ∙ ne-eqb w 0 (λ z. s (omega arith)))
@@ -127,7 +123,7 @@ module _ (n w : ℕ) (h : 0 < n) (l : n ≤ 5) where
       ]
 
   -- It holds one, and the second or the first none.
-  pub second-gap : (w / thirdPlace % 11 ≡ 0 → ⊥) → w / thirdPlace % 121 < 11 → keyed (n * 3) w ≡ false
+  pub second-gap : (w / thirdPlace % 11 ≡ 0 → ⊥) → w / thirdPlace % 121 < 11 → isGapless (n * 3) w ≡ false
   second-gap t s =
       elim three [
         | no-first a e ↦ e ∙ ne-eqb w 0 (λ z. t (omega arith))
@@ -136,7 +132,7 @@ module _ (n w : ℕ) (h : 0 < n) (l : n ≤ 5) where
         | all-three a b c e ↦ absurd (omega arith)
       ]
 
-  pub first-gap : (w / thirdPlace % 11 ≡ 0 → ⊥) → w / thirdPlace < 121 → keyed (n * 3) w ≡ false
+  pub first-gap : (w / thirdPlace % 11 ≡ 0 → ⊥) → w / thirdPlace < 121 → isGapless (n * 3) w ≡ false
   first-gap t s =
       elim three [
         | no-first a e ↦ e ∙ ne-eqb w 0 (λ z. t (omega arith))
@@ -150,16 +146,16 @@ module _ (n w : ℕ) (h : 0 < n) (l : n ≤ 5) where
       (w / thirdPlace % 11 ≡ 0 → ⊥)
       → 11 ≤ w / thirdPlace % 121
       → 121 ≤ w / thirdPlace
-      → keyed (n * 3) w ≡ keyed ((n - 1) * 3) (w % thirdPlace * 1331)
+      → isGapless (n * 3) w ≡ isGapless ((n - 1) * 3) (w % thirdPlace * 1331)
   goes-on t s r =
       elim three [
         | no-first a e ↦ absurd (omega arith)
         | no-second a b e ↦ absurd (omega arith)
         | no-third a b c e ↦ absurd (omega arith)
-        | all-three a b c e ↦ e ∙ ap (keyed ((n - 1) * 3)) (omega arith)
+        | all-three a b c e ↦ e ∙ ap (isGapless ((n - 1) * 3)) (omega arith)
       ]
 
 -- All places are read.
-pub all-read : (n w : ℕ) → n ≡ 0 → keyed (n * 3) w ≡ eqb w 0
+pub all-read : (n w : ℕ) → n ≡ 0 → isGapless (n * 3) w ≡ eqb w 0
 unfolding placesOf
 all-read n w e = no-more (n * 3) w (ap (λ (j : ℕ). placesOf (j * 3) w) e)

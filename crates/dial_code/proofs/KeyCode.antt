@@ -107,7 +107,7 @@ code-number : (ds : List ℕ) → isCode ds ≡ true → isNumber ds ≡ true
 code-number ds e = both _ _ (sym (country-test ds) ∙ e) .0
 
 -- An allowed code comes back from its count of digits and its value.
-pub code-sent : (ds : List ℕ) → isCode ds ≡ true → codeKey (length ds) (value ds) ≡ Key (key ds)
+code-sent : (ds : List ℕ) → isCode ds ≡ true → codeKey (length ds) (value ds) ≡ Key (key ds)
 unfolding key
 code-sent ds e =
     let n = code-number ds e in

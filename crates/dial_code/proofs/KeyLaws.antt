@@ -22,7 +22,7 @@ eleven : (k : ℕ) → 0 < 11 ^ k
 eleven k = one-le-pow k 11 (lit< tt)
 
 -- the places from i on hold less than the place before them weighs
-pub key-below : (i : ℕ) (ds : List ℕ) → every isDigit ds ≡ true → i + length ds ≤ 16 → keyFrom i ds < 11 ^ (16 - i)
+key-below : (i : ℕ) (ds : List ℕ) → every isDigit ds ≡ true → i + length ds ≤ 16 → keyFrom i ds < 11 ^ (16 - i)
 unfolding keyFrom
 key-below i [] e h = eleven (16 - i)
 key-below i (d ∷ ds) e h =
@@ -50,7 +50,7 @@ pub key-first : (d : ℕ) (ds : List ℕ) → every isDigit (d ∷ ds) ≡ true 
 unfolding key
 key-first d ds e h = digits-div (d + 1) (key-below 2 ds (rest-digits d ds e) (omega arith))
 
-pub key-rest : (d : ℕ) (ds : List ℕ) → every isDigit (d ∷ ds) ≡ true → length ds ≤ 14 → key (d ∷ ds) % firstPlace * 11 ≡ key ds
+key-rest : (d : ℕ) (ds : List ℕ) → every isDigit (d ∷ ds) ≡ true → length ds ≤ 14 → key (d ∷ ds) % firstPlace * 11 ≡ key ds
 unfolding key
 key-rest d ds e h =
     ap (λ (x : ℕ). x * 11) (digits-mod (d + 1) (key-below 2 ds (rest-digits d ds e) (omega arith))) ∙ key-shift 1 ds (omega arith)

@@ -3,6 +3,7 @@ pub mod Tests
 pub mod DigitLaws
 pub mod KeyLaws
 pub mod CountryLaws
+pub mod StretchLaws
 pub mod CodeLaws
 pub mod Gapless
 pub mod KeyCode

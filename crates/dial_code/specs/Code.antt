@@ -2,13 +2,14 @@
 use mathlib.Core.Path.{_≡_, refl}
 use mathlib.Core.Bool.{Bool, true, false, cond, _&&_}
 use mathlib.Core.List.{List, [], _∷_}
-use Prim.Native.Nat.{ℕ, _+_, _/_, _^_}
+use Prim.Native.Nat.{ℕ, _+_}
 use lib.ListN.{length}
 use lib.Dec.{eqb, leb, ltb}
 use Rattle.refusal.specs.Refusal.{outOfRange, codeNotAllowed}
 use Rattle.dial_code.specs.Digits.{mostDigits, digits, isWritten, isNumber, value}
-use Rattle.dial_code.specs.Key.{key, placesOf, digitsOfKey, keysEnd}
+use Rattle.dial_code.specs.Key.{key, digitsOfKey, keysEnd, isGapless}
 use Rattle.dial_code.specs.CountryCode.{countryDigits}
+use Rattle.dial_code.specs.Stretches.{samePlaces}
 use Rattle.dial_code.specs.declared.Code.{Code}
 use Rattle.dial_code.specs.declared.Keyed.{Keyed}
 use Rattle.dial_code.specs.declared.Keyed.the-variants.{Key, Refused}
@@ -23,10 +24,11 @@ unfoldable pub isCodeKey : ℕ → Bool
 unfolding key digitsOfKey isCode
 isCodeKey w = eqb (key (digitsOfKey w)) w && isCode (digitsOfKey w)
 
--- The same of a word after a code's key: with the first three places of that key it has its country, and only gaps are left to find.
+-- The same of a word after a code's key: with the first three places of that key it has its country, and only gaps are left to
+-- find. A building block of passes over keys: after a word that is no code's key it can say yes to one that is none either.
 unfoldable pub isCodeKeyAfter : ℕ → ℕ → Bool
-unfolding key placesOf isCodeKey
-isCodeKeyAfter k w = cond (eqb (k / 11 ^ 12) (w / 11 ^ 12)) (eqb (key (placesOf mostDigits w)) w) (isCodeKey w)
+unfolding samePlaces isGapless isCodeKey
+isCodeKeyAfter k w = cond (samePlaces k w) (isGapless mostDigits w) (isCodeKey w)
 
 -- The key of an allowed code sent as a count of digits and a value, or that one is outside its range, or that it is not allowed.
 unfoldable pub sentCodeKey : ℕ → ℕ → Keyed
@@ -74,7 +76,8 @@ code-keys :
 unfolding isCodeKey
 code-keys = refl
 
--- after 234: 2341, with a gap before the last place, 235, 23, 2; 1 and 2 after 0, whose first three places they do not have
+-- after 234: 2341, with a gap before the last place, 235, 23, 2; 1 and 2 after 0, whose first three places they do not have; and
+-- after words that are no code's key: 0 after itself, the keys' end after itself, after 0 and before it
 keys-after :
     isCodeKeyAfter (key (2 ∷ 3 ∷ 4 ∷ [])) (key (2 ∷ 3 ∷ 4 ∷ 1 ∷ []))
     ∷ isCodeKeyAfter (key (2 ∷ 3 ∷ 4 ∷ [])) (key (2 ∷ 3 ∷ 4 ∷ []) + 1)
@@ -83,8 +86,12 @@ keys-after :
     ∷ isCodeKeyAfter (key (2 ∷ 3 ∷ 4 ∷ [])) (key (2 ∷ []))
     ∷ isCodeKeyAfter 0 (key (1 ∷ []))
     ∷ isCodeKeyAfter 0 (key (2 ∷ []))
+    ∷ isCodeKeyAfter 0 0
+    ∷ isCodeKeyAfter keysEnd keysEnd
+    ∷ isCodeKeyAfter 0 keysEnd
+    ∷ isCodeKeyAfter keysEnd 0
     ∷ []
-    ≡ true ∷ false ∷ true ∷ false ∷ false ∷ true ∷ false ∷ []
+    ≡ true ∷ false ∷ true ∷ false ∷ false ∷ true ∷ false ∷ true ∷ true ∷ false ∷ false ∷ []
 unfolding isCodeKeyAfter
 keys-after = refl
 

@@ -2,11 +2,11 @@
 use mathlib.Core.Path.{_≡_, refl}
 use mathlib.Core.Bool.{Bool, true, false, cond, _&&_, _||_}
 use mathlib.Core.List.{List, [], _∷_, map}
-use Prim.Native.Nat.{ℕ, _+_, _*_}
+use Prim.Native.Nat.{ℕ, _+_, _-_, _*_}
 use lib.ListN.{length, take}
 use lib.Dec.{eqb, leb}
-use Rattle.dial_code.specs.Digits.{value, digits, isWritten}
-use Rattle.dial_code.specs.Key.{digitsOfKey, key}
+use Rattle.dial_code.specs.Digits.{value}
+use Rattle.dial_code.specs.Key.{key, keysEnd, digitsOfKey}
 use Rattle.dial_code.specs.declared.Country.{Country}
 use Rattle.dial_code.specs.declared.Country.the-variants.{Code, None}
 
@@ -59,11 +59,6 @@ unfoldable pub country : List ℕ → Country
 unfolding countryDigits value
 country ds = cond (leb (countryDigits ds) (length ds)) (Code (value (take (countryDigits ds) ds))) None
 
--- The country of a code sent as a count of digits and a value.
-unfoldable pub countryOf : ℕ → ℕ → Country
-unfolding country digits isWritten
-countryOf count v = cond (isWritten count v) (country (digits count v)) None
-
 -- The country of the code that a word is the key of.
 unfoldable pub countryOfKey : ℕ → Country
 unfolding country digitsOfKey
@@ -103,9 +98,15 @@ high-ends : map twoDigits (80 ∷ 81 ∷ 82 ∷ 83 ∷ 84 ∷ 85 ∷ 86 ∷ 87 �
 unfolding twoDigits
 high-ends = refl
 
--- from a count and a value, and from a key
-sent :
-    countryOf 5 23480 ∷ countryOf 2 100 ∷ countryOfKey (key (4 ∷ 4 ∷ 2 ∷ [])) ∷ countryOfKey 0 ∷ []
-    ≡ Code 234 ∷ None ∷ Code 44 ∷ None ∷ []
-unfolding countryOf countryOfKey key
-sent = refl
+-- of the keys of 442, 23480 and 23, of 0, of the last key and of the keys' end
+of-keys :
+    countryOfKey (key (4 ∷ 4 ∷ 2 ∷ []))
+    ∷ countryOfKey (key (2 ∷ 3 ∷ 4 ∷ 8 ∷ 0 ∷ []))
+    ∷ countryOfKey (key (2 ∷ 3 ∷ []))
+    ∷ countryOfKey 0
+    ∷ countryOfKey (keysEnd - 1)
+    ∷ countryOfKey keysEnd
+    ∷ []
+    ≡ Code 44 ∷ Code 234 ∷ None ∷ None ∷ Code 999 ∷ None ∷ []
+unfolding countryOfKey key
+of-keys = refl

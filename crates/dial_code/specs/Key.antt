@@ -1,6 +1,6 @@
 -- Keys (document 01, "Codes and countries").
 use mathlib.Core.Path.{_≡_, refl}
-use mathlib.Core.Bool.{true, cond, _&&_}
+use mathlib.Core.Bool.{Bool, true, false, cond, _&&_}
 use mathlib.Core.List.{List, [], _∷_, map}
 use Prim.Native.Nat.{ℕ, zero, suc, _+_, _-_, _*_, _/_, _%_, _^_}
 use lib.Dec.{eqb, ltb}
@@ -23,9 +23,12 @@ key ds = keyFrom 1 ds
 abbrev pub keysEnd : ℕ
 keysEnd = 11 ^ mostDigits
 
--- The weight of the first place.
+-- The weight of the first place, and of the third.
 abbrev pub firstPlace : ℕ
 firstPlace = 11 ^ 14
+
+abbrev pub thirdPlace : ℕ
+thirdPlace = 11 ^ 12
 
 -- The digits of at most k places of a word, up to the first place that holds none: the first place holds the digit + 1, and
 -- the places after it move up.
@@ -37,6 +40,11 @@ placesOf (suc k) w = cond (eqb (w / firstPlace) 0) [] ((w / firstPlace - 1) ∷ 
 unfoldable pub digitsOfKey : ℕ → List ℕ
 unfolding placesOf
 digitsOfKey w = cond (ltb w keysEnd) (placesOf mostDigits w) []
+
+-- No gap: a word is the key of the digits of its first k places, so that none holds a digit after one that holds none.
+unfoldable pub isGapless : ℕ → ℕ → Bool
+unfolding key placesOf
+isGapless k w = eqb (key (placesOf k w)) w
 
 -- The key of a code sent as a count of digits and a value, or that one is outside its range.
 unfoldable pub codeKey : ℕ → ℕ → Keyed
@@ -83,6 +91,22 @@ back :
     ≡ (2 ∷ 3 ∷ 4 ∷ 8 ∷ 0 ∷ []) ∷ [] ∷ [] ∷ []
 unfolding digitsOfKey key
 back = refl
+
+-- a key, 0, the last key and the keys' end; a gap in the first place, in the third, and before the last; more places than k
+gapless :
+    isGapless mostDigits (key (2 ∷ 3 ∷ 4 ∷ []))
+    ∷ isGapless mostDigits 0
+    ∷ isGapless mostDigits (keysEnd - 1)
+    ∷ isGapless mostDigits keysEnd
+    ∷ isGapless mostDigits (firstPlace - 1)
+    ∷ isGapless mostDigits (key (2 ∷ 3 ∷ []) + thirdPlace / 11)
+    ∷ isGapless mostDigits (key (2 ∷ 3 ∷ 4 ∷ []) + 1)
+    ∷ isGapless 3 (key (2 ∷ 3 ∷ 4 ∷ []))
+    ∷ isGapless 2 (key (2 ∷ 3 ∷ 4 ∷ []))
+    ∷ []
+    ≡ true ∷ true ∷ true ∷ true ∷ false ∷ false ∷ false ∷ true ∷ false ∷ []
+unfolding isGapless
+gapless = refl
 
 -- code 1, a count of 0 and of 16, a value too large for its count, code 01
 code-keys :

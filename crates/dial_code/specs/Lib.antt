@@ -2,4 +2,5 @@
 pub mod Digits
 pub mod Key
 pub mod CountryCode
+pub mod Stretches
 pub mod Code

@@ -1,10 +1,11 @@
 // Digit strings, their keys and their countries (document 01, "Codes and countries").
 ghost use mathlib.Core.Path.{_≡_};
 ghost use Prim.Native.Nat.{_-_, _≤_, _<_, _^_};
-ghost use lib.Dec.{eqb};
-ghost use Rattle.dial_code.specs.Key.{codeKey, numberKey, sentNumberKey, prefixKey, key, placesOf};
-ghost use Rattle.dial_code.specs.CountryCode.{countryOf, countryOfKey, twoDigits};
+ghost use Rattle.dial_code.specs.Digits.{mostDigits};
+ghost use Rattle.dial_code.specs.Key.{codeKey, numberKey, sentNumberKey, isGapless};
+ghost use Rattle.dial_code.specs.CountryCode.{countryOfKey, twoDigits};
 ghost use Rattle.dial_code.specs.Code.{isCodeKey, isCodeKeyAfter, sentCodeKey, codeOf};
+ghost use Rattle.dial_code.specs.Stretches.{stretchOf, isWithin};
 
 // At most so many digits.
 pub const MOST_DIGITS: u64 = 15;
@@ -14,6 +15,11 @@ pub const KEYS_END: u64 = 4_177_248_169_415_651;
 const FIRST_PLACE: u64 = 379_749_833_583_241;
 
 pub const THIRD_PLACE: u64 = 3_138_428_376_721;
+// Three places read as one number: it is below 11 to the power 3, by which three places move up, and the first of them weighs 11
+// to the power 2.
+const THREE_PLACES: u64 = 1_331;
+
+const FIRST_OF_THREE: u64 = 121;
 // The country codes of two digits: a bit for each value from 0 to 63, and from 64 on.
 const TWO_DIGITS_LOW: u64 = 0xf7fb_fb97_c810_0000;
 
@@ -35,6 +41,12 @@ pub enum Country {
 pub struct Code {
     pub count: u64,
     pub value: u64,
+}
+
+// The words from `low` to below `high`.
+pub struct Stretch {
+    pub low: u64,
+    pub high: u64,
 }
 
 fn wide(x: u8) -> u64
@@ -163,16 +175,6 @@ pub fn sent_code_key(count: u64, value: u64) -> Keyed
     }
 }
 
-// The key of the first n digits of the code that a word is the key of.
-pub fn prefix_key(key: u64, n: u64) -> u64
-    ensures { λ r. ⌜ r ≡ prefixKey key n ⌝ }
-{
-    if MOST_DIGITS <= n {
-        return key;
-    }
-    key - key % weight_of(n)
-}
-
 // The count of digits and the value of the code that a word is the key of.
 pub fn key_code(key: u64) -> Code
     ensures { λ r. ⌜ r ≡ codeOf key ⌝ }
@@ -220,7 +222,7 @@ pub fn country_of_key(key: u64) -> Country
         return Country::None;
     }
     let places = key / THIRD_PLACE;
-    let first = places / 121;
+    let first = places / FIRST_OF_THREE;
     let second = places / 11 % 11;
     let third = places % 11;
     if first == 0 {
@@ -245,26 +247,38 @@ pub fn country_of_key(key: u64) -> Country
     Country::Code(two * 10 + (third - 1))
 }
 
-// The country of a code sent as a count of digits and a value; none where one is outside its range.
-pub fn country_of(count: u64, value: u64) -> Country
-    ensures { λ r. ⌜ r ≡ countryOf count value ⌝ }
+// The words with the first three places of a key, from `low` to below `high`; none where the word is the keys' end or beyond.
+pub fn stretch_of(key: u64) -> Stretch
+    ensures { λ r. ⌜ r ≡ stretchOf key ⌝ }
 {
-    match code_key(count, value) {
-        Keyed::Key(key) => country_of_key(key),
-        Keyed::Refused(_) => Country::None,
+    if KEYS_END <= key {
+        return Stretch { low: 0, high: 0 };
+    }
+    let low = key - key % THIRD_PLACE;
+    Stretch {
+        low,
+        high: low + THIRD_PLACE,
     }
 }
 
-// Whether no place of a word that holds a digit stands after one that holds none: the word is the key of its digits. Three places
-// are read at a time.
+pub fn is_within(stretch: Stretch, key: u64) -> bool
+    ensures { λ r. ⌜ r ≡ isWithin stretch key ⌝ }
+{
+    if key < stretch.low {
+        return false;
+    }
+    key < stretch.high
+}
+
+// Whether no place of a word that holds a digit stands after one that holds none. Three places are read at a time.
 fn is_gapless(word: u64) -> bool
-    ensures { λ r. ⌜ r ≡ eqb (key (placesOf 15 word)) word ⌝ }
+    ensures { λ r. ⌜ r ≡ isGapless mostDigits word ⌝ }
 {
     let mut rest = word;
     let mut left: u64 = 5;
     while 0 < left {
         let places = rest / THIRD_PLACE;
-        rest = rest % THIRD_PLACE * 1_331;
+        rest = rest % THIRD_PLACE * THREE_PLACES;
         // The third holds none.
         if places % 11 == 0 {
             if rest != 0 {
@@ -273,13 +287,13 @@ fn is_gapless(word: u64) -> bool
             if places == 0 {
                 return true;
             }
-            return 121 <= places;
+            return FIRST_OF_THREE <= places;
         }
         // It holds one, and the second or the first none.
-        if places % 121 < 11 {
+        if places % FIRST_OF_THREE < 11 {
             return false;
         }
-        if places < 121 {
+        if places < FIRST_OF_THREE {
             return false;
         }
         left -= 1;

@@ -9,9 +9,11 @@ use lib.ListN.{length, take}
 use Rattle.dial_code.specs.Digits.{digits, value, every, isDigit}
 use Rattle.dial_code.specs.Key.{key, keysEnd, digitsOfKey, prefixKey}
 use Rattle.dial_code.specs.CountryCode.{country, countryOfKey}
-use Rattle.dial_code.specs.Code.{isCode, isCodeKey, precedes}
+use Rattle.dial_code.specs.Stretches.{samePlaces, isWithin, stretchOf}
+use Rattle.dial_code.specs.Code.{isCode, isCodeKey, isCodeKeyAfter, precedes}
 use Rattle.dial_code.proofs.DigitLaws as digit-laws
 use Rattle.dial_code.proofs.KeyLaws as key-laws
+use Rattle.dial_code.proofs.StretchLaws as stretch-laws
 use Rattle.dial_code.proofs.CodeLaws as code-laws
 use Rattle.dial_code.proofs.CountedKeys as counted-keys
 
@@ -81,3 +83,15 @@ keyed-code = code-laws.keyed-code
 -- The country of a key is that of its digit string.
 pub country-of-key : (ds : List ℕ) → every isDigit ds ≡ true → length ds ≤ 15 → countryOfKey (key ds) ≡ country ds
 country-of-key = counted-keys.country-of-key
+
+-- After the key of an allowed code, a word told from that key's first three places is told rightly.
+pub after-code : (k w : ℕ) → isCodeKey k ≡ true → isCodeKeyAfter k w ≡ isCodeKey w
+after-code = code-laws.after-code
+
+-- The words of a key's stretch are exactly those with its first three places.
+pub in-stretch : (k w : ℕ) → k < keysEnd → isWithin (stretchOf k) w ≡ samePlaces k w
+in-stretch = stretch-laws.in-stretch
+
+-- They have its country.
+pub one-country : (k w : ℕ) → isWithin (stretchOf k) w ≡ true → countryOfKey w ≡ countryOfKey k
+one-country = stretch-laws.one-country

@@ -4,13 +4,13 @@ use mathlib.Core.Path.{_≡_, refl, sym, _∙_}
 use Prim.Native.Nat.{_*_, _≤_}
 use native.Mathlib.Omega.{arith}
 use borrow.Author.Needs.{needs}
-use Rattle.dial_code.proofs.CodeLaws.{keyed}
+use Rattle.dial_code.specs.Key.{isGapless}
 use Rattle.dial_code.proofs.Gapless.{more-behind, nothing-left, ends-here, second-gap, first-gap, goes-on, all-read}
 use Rattle.dial_code.proofs.is_gapless.Statement.{statement}
 use Rattle.dial_code.proofs.is_gapless.Tie as tie
 
 abbrev Inv-loop : tie.InvT-loop
-Inv-loop word rest₀ left₀ rest left = (left ≤ 5) × (keyed 15 word ≡ keyed (left * 3) rest)
+Inv-loop word rest₀ left₀ rest left = (left ≤ 5) × (isGapless 15 word ≡ isGapless (left * 3) rest)
 
 abbrev μ-loop : tie.MeasureT-loop
 μ-loop word rest₀ left₀ rest left = left
