@@ -8,4 +8,5 @@ pub mod SoundLists
 pub mod Statuses
 pub mod Usable
 pub mod BookWords
+pub mod NewBook
 pub mod Unique

@@ -1,12 +1,90 @@
-// Which codes a notice closes, by their countries (document 01, "Effective days").
+// What a notice asks of each of its lines, and of the codes that it does not list (document 01, "Effective days").
 ghost use mathlib.Core.Path.{_≡_};
-ghost use mathlib.Core.Bool.{_&&_};
-ghost use lib.Dec.{leb, ltb};
-ghost use Rattle.update.specs.Plans.{isMarked, closesBy};
-ghost use Rattle.update.specs.Standing.{AlikeIn, AlikeAnyway};
-use crate::Alike;
-use crate::Plan;
+ghost use Prim.Native.Nat.{max};
+ghost use Rattle.effect.specs.Lines.{foundIn, raises, effectiveBy, changeBy};
+ghost use Rattle.effect.specs.Closings.{isMarked, closesBy, closedAnyway, closedRange};
+use book::Entry;
 use dial_code::Country;
+use dial_code::Stretch;
+use notice::Line;
+use rate::Offer;
+
+// `noticed` where every line waits for the floor; `closing` is the day on which unlisted codes close.
+pub struct Plan {
+    pub kind: u64,
+    pub country: u64,
+    pub received: u64,
+    pub floor: u64,
+    pub noticed: bool,
+    pub closing: u64,
+}
+
+// Whether a notice closes the codes with keys in a stretch that it does not list: all of them, or none.
+pub struct ClosedRange {
+    pub keys: Stretch,
+    pub closed: bool,
+}
+
+// The later of two days.
+pub fn later(a: u64, b: u64) -> u64
+    ensures { λ r. ⌜ r ≡ max a b ⌝ }
+{
+    if a < b { b } else { a }
+}
+
+// Whether an offer is an increase over the one found for its code: a delete or a block always is, a rate if it is above the open
+// rate found.
+fn is_increase(found: Offer, offer: Offer) -> bool
+    ensures { λ r. ⌜ r ≡ raises found offer ⌝ }
+{
+    match offer {
+        Offer::Closed => true,
+        Offer::Blocked => true,
+        Offer::Open {
+            rate,
+            first: _,
+            next: _,
+        } => match found {
+            Offer::Closed => false,
+            Offer::Blocked => false,
+            Offer::Open {
+                rate: standing,
+                first: _,
+                next: _,
+            } => standing.0 < rate.0,
+        },
+    }
+}
+
+// The effective day of a line, against the book before its notice.
+fn effective_day(old: &[u64], plan: Plan, line: Line) -> u64
+    ensures { λ r. ⌜ r ≡ effectiveBy plan (foundIn (now (old .entry))) line ⌝ }
+{
+    let wanted = later(plan.received, notice::listed_day(line.listed));
+    if plan.noticed {
+        return later(wanted, plan.floor);
+    }
+    let answer = lookup::best_offer(old, line.key, wanted);
+    let found = answer.offer;
+    let offer = line.offer;
+    if is_increase(found, offer) {
+        return later(wanted, plan.floor);
+    }
+    wanted
+}
+
+// A line's change of its code: key, effective day, offer word.
+pub fn change_of(old: &[u64], plan: Plan, line: Line) -> Entry
+    ensures { λ r. ⌜ r ≡ changeBy plan (foundIn (now (old .entry))) line ⌝ }
+{
+    let day = effective_day(old, plan, line);
+    let offer = line.offer;
+    Entry {
+        key: line.key,
+        day,
+        offer: rate::offer_word(offer),
+    }
+}
 
 fn is_marked(marks: &[u8; 1000], country: u64) -> bool
     ensures { λ r. ⌜ r ≡ isMarked (now (marks .entry)) country ⌝ }
@@ -19,7 +97,7 @@ fn is_marked(marks: &[u8; 1000], country: u64) -> bool
 }
 
 // Whether a notice closes a code that it does not list.
-pub fn closes(plan: Plan, marks: &[u8; 1000], key: u64) -> bool
+fn closes(plan: Plan, marks: &[u8; 1000], key: u64) -> bool
     ensures { λ r. ⌜ r ≡ closesBy plan (now (marks .entry)) key ⌝ }
 {
     if plan.kind == notice::FULL {
@@ -48,56 +126,39 @@ pub fn closes(plan: Plan, marks: &[u8; 1000], key: u64) -> bool
     false
 }
 
-// The codes that a notice closes alike whatever their countries: all or none.
-pub fn alike_anyway(plan: Plan) -> Alike
-    ensures { λ r. ⌜ AlikeAnyway plan r ⌝ }
+// The codes that a notice closes alike whatever their countries: all or none, where it is full or an update.
+pub fn closed_anyway(plan: Plan) -> ClosedRange
+    ensures { λ r. ⌜ r ≡ closedAnyway plan ⌝ }
 {
     if plan.kind == notice::FULL {
-        return Alike {
-            low: 0,
-            high: dial_code::KEYS_END,
+        return ClosedRange {
+            keys: Stretch {
+                low: 0,
+                high: dial_code::KEYS_END,
+            },
             closed: true,
         };
     }
     if plan.kind == notice::UPDATE {
-        return Alike {
-            low: 0,
-            high: dial_code::KEYS_END,
+        return ClosedRange {
+            keys: Stretch {
+                low: 0,
+                high: dial_code::KEYS_END,
+            },
             closed: false,
         };
     }
-    Alike {
-        low: 0,
-        high: 0,
+    ClosedRange {
+        keys: Stretch { low: 0, high: 0 },
         closed: false,
     }
 }
 
 // The codes with the first three places of one, which have its country.
-pub fn alike_with(plan: Plan, marks: &[u8; 1000], key: u64) -> Alike
-    ensures { λ r. ⌜ (r .closed ≡ closesBy plan (now (marks .entry)) key) × AlikeIn plan (now (marks .entry)) r ⌝ }
+pub fn closed_range(plan: Plan, marks: &[u8; 1000], key: u64) -> ClosedRange
+    ensures { λ r. ⌜ r ≡ closedRange plan (now (marks .entry)) key ⌝ }
 {
     let closed = closes(plan, marks, key);
-    if dial_code::KEYS_END <= key {
-        return Alike {
-            low: 0,
-            high: 0,
-            closed,
-        };
-    }
-    let low = key - key % dial_code::THIRD_PLACE;
-    Alike {
-        low,
-        high: low + dial_code::THIRD_PLACE,
-        closed,
-    }
-}
-
-pub fn covers(alike: Alike, key: u64) -> bool
-    ensures { λ r. ⌜ r ≡ (leb (alike .low) key && ltb key (alike .high)) ⌝ }
-{
-    if key < alike.low {
-        return false;
-    }
-    key < alike.high
+    let keys = dial_code::stretch_of(key);
+    ClosedRange { keys, closed }
 }

@@ -314,7 +314,7 @@ fn least(a: u64, b: u64) -> u64
 }
 
 // The day that a last field lists, 0 where it lists none.
-fn listed_day(listed: u64) -> u64
+pub fn listed_day(listed: u64) -> u64
     ensures { λ r. ⌜ r ≡ listed - 1 ⌝ }
 {
     if listed == 0 { 0 } else { listed - 1 }

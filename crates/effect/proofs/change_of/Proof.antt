@@ -1,8 +1,8 @@
--- `update::change_of` meets its contract. Assumes nothing.
+-- `effect::change_of` meets its contract. Assumes nothing.
 use borrow.Author.Needs.{needs}
-use Rattle.update.proofs.Planning.{changes-to}
-use Rattle.update.proofs.change_of.Statement.{statement}
-use Rattle.update.proofs.change_of.Tie as tie
+use Rattle.effect.proofs.DayLaws.{changes-to}
+use Rattle.effect.proofs.change_of.Statement.{statement}
+use Rattle.effect.proofs.change_of.Tie as tie
 
 effective-day-requires : tie.Need-effective-day-requires
 effective-day-requires c κs = search needs

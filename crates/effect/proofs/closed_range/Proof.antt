@@ -1,27 +1,35 @@
--- `update::alike_with` meets its contract. Assumes nothing.
-use mathlib.Core.Path.{_∙_}
+use mathlib.Core.Path.{_≡_, refl, ap, sym, _∙_}
+use mathlib.Core.Bool.{Bool, true, false}
+use mathlib.Core.List.{List, [], _∷_, _++_}
+use mathlib.Core.Logic.{⊎-elim}
+use Prim.Native.Nat.{ℕ, zero, suc, _+_, _-_, _*_, _/_, _≤_, _<_}
 use native.Mathlib.Omega.{arith}
+use native.Mathlib.Numerals.{add-one, sub-one}
 use borrow.Author.Needs.{needs}
-use Rattle.update.proofs.Planning.{closes-alike}
-use Rattle.update.proofs.countries.alike_with.Statement.{statement}
-use Rattle.update.proofs.countries.alike_with.Tie as tie
+use borrow.Author.Tests.{lt-ltb, le-ltb, le-leb, lt-leb, eq-eqb, ne-eqb}
+use lib.ListN.{length, getD, drop, take, set, length-set}
+use lib.Dec.{eqb, leb, ltb}
+use borrow.Author.Needs.{needs}
+use Rattle.effect.proofs.closed_range.Statement.{statement}
+use Rattle.effect.proofs.closed_range.Tie as tie
+use Rattle.effect.proofs.closed_range.Reads as reads
+use Rattle.effect.proofs.closed_range.Lts as lts
+use Rattle.dial_code.proofs.stretch_of.Reads as stretch-of-reads
+use Rattle.effect.proofs.closes.Reads as closes-reads
+use Rattle.effect.specs.Closings.{closedRange}
 
+-- src/lib.rt:161:9
 closes-requires : tie.Need-closes-requires
 closes-requires c κs = search needs
 
+-- src/lib.rt:162:9
+stretch-of-requires : tie.Need-stretch-of-requires
+stretch-of-requires c κs = search needs
+
+-- src/lib.rt:158:1
 returns : tie.Need-returns
-returns c = (c .before .closes .ensures, λ k l h. absurd (omega arith))
+unfolding closedRange
+returns c = rw (c .stretch-of .ensures, c .before .closes .ensures)
 
-sub-low : tie.Need-sub-low
-sub-low c = search needs
-
-add-t7 : tie.Need-add-t7
-add-t7 c = search needs
-
-returns-2 : tie.Need-returns-2
-returns-2 c =
-    let e = c .before .closes .ensures in
-    (e, λ k l h. e ∙ closes-alike _ _ _ k (omega arith))
-
-pub alike-with-spec : {M : Type 1} → statement M
-alike-with-spec = tie.close (tie.spec closes-requires returns sub-low add-t7 returns-2)
+pub closed-range-spec : {M : Type 1} → statement M
+closed-range-spec = tie.close (tie.spec closes-requires stretch-of-requires returns)

@@ -1,9 +1,9 @@
--- `update::closes` meets its contract: a return for each kind of notice. Assumes nothing.
+-- `effect::closes` meets its contract: a return for each kind of notice. Assumes nothing.
 use mathlib.Core.Path.{sym, _∙_}
 use borrow.Author.Needs.{needs}
-use Rattle.update.proofs.Planning.{closes-all, closes-nowhere, closes-marked, closes-country, closes-none}
-use Rattle.update.proofs.countries.closes.Statement.{statement}
-use Rattle.update.proofs.countries.closes.Tie as tie
+use Rattle.effect.proofs.ClosingLaws.{closes-all, closes-nowhere, closes-marked, closes-country, closes-none}
+use Rattle.effect.proofs.closes.Statement.{statement}
+use Rattle.effect.proofs.closes.Tie as tie
 
 returns : tie.Need-returns
 returns c = closes-all _ _ _ (c .if1 .taken)
