@@ -7,15 +7,15 @@
  * What the host must ensure
  *   - Slices are passed as pointer and length, in elements: words for uint64_t, bytes for uint8_t. A pointer is good for its whole
  *     length and aligned for its type (8 bytes for words).
- *   - NULL is not allowed, not even with length 0, where any other aligned address will do. The data() of an empty std::vector may be
- *     NULL; pass v.empty() ? &none : v.data(), with an object none of the element's type.
+ *   - NULL is not allowed, not even with length 0, where any other aligned address will do. The data() of an empty std::vector may
+ *     be NULL; pass v.empty() ? &none : v.data(), with an object none of the element's type.
  *   - A slice that a call writes overlaps no other slice of that call: the old and the new book of an apply are two.
  *   - Until a call returns, nobody else writes its slices or reads the one that it writes.
  * Calls that keep to this may run at the same time, on different books or on one book that all only read.
  * What the slices hold is tested by the library: a damaged book, notice or batch is refused.
  *
- * Linking: librate_book.a is for x86-64 Linux. It needs memset, which every C runtime and Rust's compiler-builtins have, and nothing
- * else; and less than 4 KiB of stack (measured).
+ * Linking: librate_book.a is for x86-64 Linux. It needs memset, which every C runtime and Rust's compiler-builtins have, nothing
+ * else, and less than 4 KiB of stack (measured).
  *
  * Units
  *   day      0 to 65,000; a received day is at most 60,000
@@ -34,16 +34,16 @@
  *
  * Notices and batches are numbers in groups of seven bits, one a byte, lowest group first, the top bit set where another follows:
  * the shortest form, at most 9 bytes.
- *   notice   enum rate_book_kind; received day; for a replacement only, the country's digit count and value; number of lines, 1 to
- *            65,535; the lines, in rising key order
- *   line     digit count and value of the code; enum rate_book_line; for a rate only, decimals 0 to 12, mantissa 0 to 10^10, first
- *            and next increment in seconds, 1 to 255 each; listed day plus one, or 0 for none
+ *   notice   kind (enum rate_book_kind); received day; for a replacement only, the country's digit count and value; number of
+ *            lines, 1 to 65,535; the lines, in rising key order
+ *   line     digit count and value of the code; status (enum rate_book_line); for a rate only, decimals 0 to 12, mantissa 0 to
+ *            10^10, first and next increment in seconds, 1 to 255 each; listed day plus one, or 0 for none
  *   batch    number of calls, 0 to 65,535; for each, digit count and value of the number, moment, duration
  *
  * Refusals
  * Each call but rate_book_words answers with a refusal number, 0 for none: the first in the call's order whose cause holds. With a
- * refusal all else in the answer is 0 (but the key of a blocked call), and all lent memory is left as it was. Compilers that can,
- * warn where an answer is dropped.
+ * refusal all else in the answer is 0 (but the key of a blocked call), and all lent memory is left as it was. A dropped answer is
+ * warned of where the compiler can (RATE_BOOK_MUST_USE).
  */
 #ifndef RATE_BOOK_H
 #define RATE_BOOK_H
@@ -140,7 +140,7 @@ enum rate_book_line {
 #define RATE_BOOK_ENTRY_WORDS 3
 #define RATE_BOOK_ROW_WORDS 4 /* of a call in a batch's rows */
 
-#define RATE_BOOK_LONGEST_LIST_HEAD 7 /* bytes of a standing list before its lines, at most */
+#define RATE_BOOK_LONGEST_LIST_HEAD 7  /* bytes of a standing list before its lines, at most */
 #define RATE_BOOK_LONGEST_LIST_LINE 21 /* bytes of a line of it, at most */
 
 /* The book left by an apply. */
@@ -227,10 +227,10 @@ rate_book_batch rate_book_rate_batch(const uint64_t *book, size_t len, const uin
 
 /* Writes the standing list of a day of 0 to 60,000: a full notice received that day, with each open or blocked code, rates with 8
  * decimals and no listed days. The notice period, earlier days and pending changes are not in it: to keep a book, store its words.
- * A list is loaded by applying it to a fresh book of notice period 0, and no other: with a notice period N its blocks, which are
- * increases, wait N days, and until then a blocked code is open where a shorter code is. What the list's day gave then holds for all
- * days from it on, also where a close or another price was pending. RATE_BOOK_WORD_PERIOD of the book left may then be set to the
- * contract's notice period, 0 to 365, which holds for later notices.
+ * Load a list only into a fresh book of notice period 0. With a notice period N its blocks, which are increases, wait N days, and
+ * until then a blocked code is open where a shorter code is. Once loaded, what the list's day gave holds for all days from it on,
+ * also where a close or another price was pending. The word RATE_BOOK_WORD_PERIOD of the book left may then be set to the
+ * contract's notice period, 0 to 365, for the notices to come.
  * Writes the first length bytes of out. Later bytes are untouched.
  * Refusals, in this order: 20, 21, 41, 43, 23. */
 RATE_BOOK_MUST_USE

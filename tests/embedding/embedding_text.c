@@ -1,7 +1,5 @@
 /* The code of docs/EMBEDDING.md, which tests/embedding.sh puts into month.h and load.h: notices that need longer books, one that no
  * book has room for, a batch, a list, and the list loaded. */
-#include <stdbool.h>
-
 #include "fields.h"
 #include "month.h"
 #include "load.h"

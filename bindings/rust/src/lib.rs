@@ -2,7 +2,7 @@
 //!
 //! A thin, safe wrapper over the proved library. You lend all memory as slices; the library has no heap, files, threads or clock
 //! and keeps nothing between calls. Bad input is answered by a [`Refusal`], and a refused call leaves all lent memory as it was.
-//! `include/rate_book.h` gives the layout of books, notices and batches.
+//! `include/rate_book.h` gives the layout of books, notices and batches; [`Kind`] and [`LineStatus`] name a notice's numbers.
 //!
 //! ```
 //! use rate_book::{Day, Moment, Offer};
