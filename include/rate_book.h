@@ -104,10 +104,10 @@ enum rate_book_status {
 
 /* The kind of a notice, its first field. */
 enum rate_book_kind {
-    RATE_BOOK_KIND_FULL = 1,
-    RATE_BOOK_KIND_PARTIAL = 2,
-    RATE_BOOK_KIND_UPDATE = 3,
-    RATE_BOOK_KIND_REPLACEMENT = 4
+    RATE_BOOK_KIND_FULL = 1,       /* closes every code that it does not list */
+    RATE_BOOK_KIND_PARTIAL = 2,    /* closes the unlisted codes of the countries of its lines */
+    RATE_BOOK_KIND_UPDATE = 3,     /* closes none */
+    RATE_BOOK_KIND_REPLACEMENT = 4 /* closes the unlisted codes of the country that it names */
 };
 
 /* The status of a notice's line, the field after its code. */
