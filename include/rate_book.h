@@ -6,14 +6,16 @@
  *
  * What the host must ensure
  *   - Slices are passed as pointer and length, in elements: words for uint64_t, bytes for uint8_t. A pointer is good for its whole
- *     length and aligned for its type (8 bytes for words). It is not NULL, not even with length 0, where any aligned address will
- *     do.
+ *     length and aligned for its type (8 bytes for words).
+ *   - NULL is not allowed, not even with length 0, where any other aligned address will do. The data() of an empty std::vector may
+ *     be NULL; pass v.empty() ? &none : v.data(), with an object none of the element's type.
  *   - A slice that a call writes overlaps no other slice of that call: the old and the new book of an apply are two.
  *   - Until a call returns, nobody else writes its slices or reads the one that it writes.
  * Calls that keep to this may run at the same time, on different books or on one book that all only read.
  * What the slices hold is tested by the library: a damaged book, notice or batch is refused.
  *
- * Linking: librate_book.a is for x86-64 Linux. It needs memset, nothing else, and less than 4 KiB of stack (measured).
+ * Linking: librate_book.a is for x86-64 Linux. It needs memset, which every C runtime and Rust's compiler-builtins have, nothing
+ * else, and less than 4 KiB of stack (measured).
  *
  * Units
  *   day      0 to 65,000; a received day is at most 60,000
@@ -32,21 +34,30 @@
  *
  * Notices and batches are numbers in groups of seven bits, one a byte, lowest group first, the top bit set where another follows:
  * the shortest form, at most 9 bytes.
- *   notice   kind (1 full, 2 partial, 3 update, 4 replacement); received day; for kind 4 only, the country's digit count and value;
- *            number of lines, 1 to 65,535; the lines, in rising key order
- *   line     digit count and value of the code; status (0 delete, 1 block, 2 rate); for status 2 only, decimals 0 to 12, mantissa
- *            0 to 10^10, first and next increment in seconds, 1 to 255 each; listed day plus one, or 0 for none
+ *   notice   kind (enum rate_book_kind); received day; for a replacement only, the country's digit count and value; number of
+ *            lines, 1 to 65,535; the lines, in rising key order
+ *   line     digit count and value of the code; status (enum rate_book_line); for a rate only, decimals 0 to 12, mantissa 0 to
+ *            10^10, first and next increment in seconds, 1 to 255 each; listed day plus one, or 0 for none
  *   batch    number of calls, 0 to 65,535; for each, digit count and value of the number, moment, duration
  *
  * Refusals
  * Each call but rate_book_words answers with a refusal number, 0 for none: the first in the call's order whose cause holds. With a
- * refusal all else in the answer is 0 (but the key of a blocked call), and all lent memory is left as it was.
+ * refusal all else in the answer is 0 (but the key of a blocked call), and all lent memory is left as it was. A dropped answer is
+ * warned of where the compiler can (RATE_BOOK_MUST_USE).
  */
 #ifndef RATE_BOOK_H
 #define RATE_BOOK_H
 
 #include <stddef.h>
 #include <stdint.h>
+
+#if (defined(__cplusplus) && __cplusplus >= 201703L) || (defined(__STDC_VERSION__) && __STDC_VERSION__ >= 202311L)
+#define RATE_BOOK_MUST_USE [[nodiscard]]
+#elif defined(__GNUC__)
+#define RATE_BOOK_MUST_USE __attribute__((warn_unused_result))
+#else
+#define RATE_BOOK_MUST_USE
+#endif
 
 #ifdef __cplusplus
 extern "C" {
@@ -84,10 +95,26 @@ enum rate_book_refusal {
     RATE_BOOK_OFFER_BLOCKED = 44      /* the offer is blocked; the answer keeps the matched key */
 };
 
+/* The status of an offer. */
 enum rate_book_status {
     RATE_BOOK_CLOSED = 0,
     RATE_BOOK_BLOCKED = 1,
     RATE_BOOK_OPEN = 2
+};
+
+/* The kind of a notice, its first field. */
+enum rate_book_kind {
+    RATE_BOOK_KIND_FULL = 1,       /* closes every code that it does not list */
+    RATE_BOOK_KIND_PARTIAL = 2,    /* closes the unlisted codes of the countries of its lines */
+    RATE_BOOK_KIND_UPDATE = 3,     /* closes none */
+    RATE_BOOK_KIND_REPLACEMENT = 4 /* closes the unlisted codes of the country that it names */
+};
+
+/* The status of a notice's line, the field after its code. */
+enum rate_book_line {
+    RATE_BOOK_LINE_DELETE = 0,
+    RATE_BOOK_LINE_BLOCK = 1,
+    RATE_BOOK_LINE_RATE = 2
 };
 
 #define RATE_BOOK_LAST_DAY UINT64_C(65000)
@@ -97,11 +124,24 @@ enum rate_book_status {
 #define RATE_BOOK_LONGEST_DURATION UINT64_C(604800)
 #define RATE_BOOK_LONGEST_PERIOD UINT64_C(365)
 #define RATE_BOOK_DEAREST_RATE UINT64_C(999000000)
-#define RATE_BOOK_MOST_ENTRIES 65535
-#define RATE_BOOK_MOST_CALLS 65535
-#define RATE_BOOK_HEADER_WORDS 4 /* of a book */
+#define RATE_BOOK_LONGEST_CODE 15 /* digits of a code, and of a number */
+#define RATE_BOOK_MOST_DECIMALS 12
+#define RATE_BOOK_LARGEST_MANTISSA UINT64_C(10000000000)
+#define RATE_BOOK_LONGEST_INCREMENT 255
+#define RATE_BOOK_MOST_LINES 65535   /* of a notice */
+#define RATE_BOOK_MOST_ENTRIES 65535 /* of a book */
+#define RATE_BOOK_MOST_CALLS 65535   /* of a batch */
+
+#define RATE_BOOK_HEADER_WORDS 4 /* of a book: those named by RATE_BOOK_WORD_ .. */
+#define RATE_BOOK_WORD_ENTRIES 0
+#define RATE_BOOK_WORD_PERIOD 1
+#define RATE_BOOK_WORD_LAST_RECEIVED 2
+#define RATE_BOOK_WORD_LATEST_EFFECTIVE 3
 #define RATE_BOOK_ENTRY_WORDS 3
-#define RATE_BOOK_ROW_WORDS 4 /* of a batch's rows */
+#define RATE_BOOK_ROW_WORDS 4 /* of a call in a batch's rows */
+
+#define RATE_BOOK_LONGEST_LIST_HEAD 7  /* bytes of a standing list before its lines, at most */
+#define RATE_BOOK_LONGEST_LIST_LINE 21 /* bytes of a line of it, at most */
 
 /* The book left by an apply. */
 typedef struct {
@@ -144,11 +184,13 @@ typedef struct {
 } rate_book_listed;
 
 /* The words to lend for a book of so many entries; above 65,535 entries, the words for 65,535. */
+RATE_BOOK_MUST_USE
 uint64_t rate_book_words(uint64_t entries);
 
 /* Makes a fresh book with a notice period of 0 to 365 days. Answers with the refusal number alone.
  * Writes all len words of the book.
  * Refusals, in this order: 22, 20. */
+RATE_BOOK_MUST_USE
 uint64_t rate_book_fresh(uint64_t *book, size_t len, uint64_t notice_period);
 
 /* Applies one notice to the old book. The new book may be longer or shorter.
@@ -156,18 +198,21 @@ uint64_t rate_book_fresh(uint64_t *book, size_t len, uint64_t notice_period);
  * one.
  * Refusals, in this order: 20, 21 for the old book; 20 for the new; 1 to 8 at the first field that has a cause, the lowest of that
  * field; 9; 10; 30. */
+RATE_BOOK_MUST_USE
 rate_book_applied rate_book_apply(const uint64_t *old_book, size_t old_len, const uint8_t *notice, size_t notice_len,
                                   uint64_t *new_book, size_t new_len);
 
 /* What a number costs on a day. A closed or blocked offer is no refusal here. Each lookup tests the whole book.
  * Writes nothing.
  * Refusals, in this order: 20, 21, 40, 41. */
+RATE_BOOK_MUST_USE
 rate_book_offer rate_book_lookup(const uint64_t *book, size_t len, const uint8_t *number, size_t number_len, uint64_t day);
 
 /* Rates one call that starts at a moment and lasts 0 to 604,800 seconds. The start day prices all of it. A duration of 0 is charged
  * 0 but needs an offer. Each call tests the whole book; a batch tests it once.
  * Writes nothing.
  * Refusals, in this order: 20, 21, 40, 41, 42, 43, 44. */
+RATE_BOOK_MUST_USE
 rate_book_call rate_book_rate_call(const uint64_t *book, size_t len, const uint8_t *number, size_t number_len, uint64_t moment,
                                    uint64_t duration);
 
@@ -176,13 +221,19 @@ rate_book_call rate_book_rate_call(const uint64_t *book, size_t len, const uint8
  * seconds, charge. Later words are untouched.
  * Refusals of the batch, in this order: 20; 21; 1, 2 and, for the number of calls, 4, at the first field that has a cause; 9; 23.
  * 40 to 44 stand in the call's row and do not stop the batch; there a value not below 10^(digit count) is 40 too. */
+RATE_BOOK_MUST_USE
 rate_book_batch rate_book_rate_batch(const uint64_t *book, size_t len, const uint8_t *batch, size_t batch_len, uint64_t *rows,
                                      size_t rows_len);
 
 /* Writes the standing list of a day of 0 to 60,000: a full notice received that day, with each open or blocked code, rates with 8
- * decimals and no listed days.
+ * decimals and no listed days. The notice period, earlier days and pending changes are not in it: to keep a book, store its words.
+ * Load a list only into a fresh book of notice period 0. With a notice period N its blocks, which are increases, wait N days, and
+ * until then a blocked code is open where a shorter code is. Once loaded, what the list's day gave holds for all days from it on,
+ * also where a close or another price was pending. The word RATE_BOOK_WORD_PERIOD of the book left may then be set to the
+ * contract's notice period, 0 to 365, for the notices to come.
  * Writes the first length bytes of out. Later bytes are untouched.
  * Refusals, in this order: 20, 21, 41, 43, 23. */
+RATE_BOOK_MUST_USE
 rate_book_listed rate_book_list(const uint64_t *book, size_t len, uint64_t day, uint8_t *out, size_t out_len);
 
 #ifdef __cplusplus

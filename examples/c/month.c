@@ -12,9 +12,6 @@
 #define ROOM 64 /* entries */
 #define WORDS (RATE_BOOK_HEADER_WORDS + ROOM * RATE_BOOK_ENTRY_WORDS)
 
-enum { FULL = 1, PARTIAL = 2, UPDATE = 3 }; /* kinds of notice */
-enum { BLOCK = 1, RATE = 2 };               /* statuses of lines */
-
 /* The names that the host gives to codes. */
 static const struct {
     const char *code;
@@ -75,7 +72,7 @@ static message notice(uint64_t kind, uint64_t received, uint64_t lines)
 static void put_rate(message *m, const char *code, uint64_t mantissa, uint64_t first, uint64_t next)
 {
     put_digits(m, code);
-    put(m, RATE);
+    put(m, RATE_BOOK_LINE_RATE);
     put(m, 4);
     put(m, mantissa);
     put(m, first);
@@ -86,7 +83,7 @@ static void put_rate(message *m, const char *code, uint64_t mantissa, uint64_t f
 static void put_block(message *m, const char *code)
 {
     put_digits(m, code);
-    put(m, BLOCK);
+    put(m, RATE_BOOK_LINE_BLOCK);
     put(m, 0);
 }
 
@@ -227,7 +224,7 @@ static int rate_calls(uint64_t day)
 
 static int list(uint64_t day)
 {
-    uint8_t bytes[1024];
+    uint8_t bytes[RATE_BOOK_LONGEST_LIST_HEAD + ROOM * RATE_BOOK_LONGEST_LIST_LINE];
     rate_book_listed listed = rate_book_list(books[current], WORDS, day, bytes, sizeof bytes);
     if (listed.refusal != RATE_BOOK_NOT_REFUSED) {
         printf("list refused, %" PRIu64 ", %s\n", listed.refusal, cause(listed.refusal));
@@ -243,7 +240,7 @@ static int list(uint64_t day)
         int digits = (int)take(&at);
         snprintf(code, sizeof code, "%0*" PRIu64, digits, take(&at));
         printf("  %-6s %-25s ", code, name_of(code));
-        if (take(&at) == RATE) {
+        if (take(&at) == RATE_BOOK_LINE_RATE) {
             take(&at); /* decimals, 8 */
             print_amount(take(&at));
             uint64_t first = take(&at);
@@ -268,18 +265,18 @@ int main(void)
     printf("A fresh book: notice period %" PRIu64 " days, room for %d entries in %" PRIu64 " words\n\n", period, ROOM,
            rate_book_words(ROOM));
 
-    message first = notice(FULL, 100, 4);
+    message first = notice(RATE_BOOK_KIND_FULL, 100, 4);
     put_rate(&first, "23480", 900, 1, 1);
     put_rate(&first, "234806", 1300, 1, 1);
     put_rate(&first, "4420", 65, 60, 60);
     put_block(&first, "4470");
     apply("Full notice of day 100", &first);
 
-    message second = notice(PARTIAL, 110, 1);
+    message second = notice(RATE_BOOK_KIND_PARTIAL, 110, 1);
     put_rate(&second, "2348", 800, 1, 1);
     apply("Partial notice of day 110", &second);
 
-    message late = notice(UPDATE, 109, 1);
+    message late = notice(RATE_BOOK_KIND_UPDATE, 109, 1);
     put_rate(&late, "2348", 700, 1, 1);
     apply("Update of day 109", &late);
 

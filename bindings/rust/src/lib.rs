@@ -2,7 +2,7 @@
 //!
 //! A thin, safe wrapper over the proved library. You lend all memory as slices; the library has no heap, files, threads or clock
 //! and keeps nothing between calls. Bad input is answered by a [`Refusal`], and a refused call leaves all lent memory as it was.
-//! `include/rate_book.h` gives the layout of books, notices and batches.
+//! `include/rate_book.h` gives the layout of books, notices and batches; [`Kind`] and [`LineStatus`] name a notice's numbers.
 //!
 //! ```
 //! use rate_book::{Day, Moment, Offer};
@@ -30,7 +30,8 @@
 //! # Linking
 //!
 //! The build script links `librate_book.a` from where `rt staticlib rate_book` writes it, or from the folder that the environment
-//! variable `RATE_BOOK_LIB_DIR` names. The archive is for x86-64 Linux.
+//! variable `RATE_BOOK_LIB_DIR` names. The archive is for x86-64 Linux. It needs `memset`, which every C runtime and Rust's
+//! compiler-builtins have, and nothing else.
 #![deny(missing_docs, unsafe_code)]
 
 #[allow(unsafe_code)]
@@ -40,22 +41,69 @@ mod refusal;
 pub use refusal::Refusal;
 use std::fmt;
 
-/// The words of a book before its entries.
+/// The words of a book before its entries: those named by [`WORD_ENTRIES`], [`WORD_PERIOD`], [`WORD_LAST_RECEIVED`] and
+/// [`WORD_LATEST_EFFECTIVE`].
 pub const HEADER_WORDS: usize = 4;
+/// The word of a book that holds the number of its entries.
+pub const WORD_ENTRIES: usize = 0;
+/// The word of a book that holds its notice period, in days.
+pub const WORD_PERIOD: usize = 1;
+/// The word of a book that holds the received day of the last accepted notice.
+pub const WORD_LAST_RECEIVED: usize = 2;
+/// The word of a book that holds the latest effective day of any line accepted so far.
+pub const WORD_LATEST_EFFECTIVE: usize = 3;
 /// The words of an entry.
 pub const ENTRY_WORDS: usize = 3;
 /// The most entries of a book.
 pub const MOST_ENTRIES: usize = 65_535;
+/// The most lines of a notice.
+pub const MOST_LINES: usize = 65_535;
 /// The most calls of a batch.
 pub const MOST_CALLS: usize = 65_535;
 /// The words of a call in a batch's rows.
 pub const ROW_WORDS: usize = 4;
+/// The most bytes of a standing list before its lines.
+pub const LONGEST_LIST_HEAD: usize = 7;
+/// The most bytes of a line of a standing list. It has no more lines than the book has entries.
+pub const LONGEST_LIST_LINE: usize = 21;
 /// The longest duration of a call, in seconds.
 pub const LONGEST_DURATION: u64 = 604_800;
 /// The longest notice period, in days.
 pub const LONGEST_PERIOD: u64 = 365;
 /// The dearest open rate, in hundred-millionths of the contract currency a minute.
 pub const DEAREST_RATE: u64 = 999_000_000;
+/// The most digits of a code, and of a number.
+pub const LONGEST_CODE: usize = 15;
+/// The most decimals of a line's rate.
+pub const MOST_DECIMALS: u64 = 12;
+/// The largest mantissa of a line's rate.
+pub const LARGEST_MANTISSA: u64 = 10_000_000_000;
+/// The longest increment, in seconds.
+pub const LONGEST_INCREMENT: u64 = 255;
+
+/// The kind of a notice, its first field: `Kind::Update as u64` is 3.
+#[derive(Clone, Copy, Debug, PartialEq, Eq, Hash)]
+pub enum Kind {
+    /// Closes every code that it does not list.
+    Full = 1,
+    /// Closes the unlisted codes of the countries of its lines.
+    Partial = 2,
+    /// Closes none.
+    Update = 3,
+    /// Closes the unlisted codes of the country that it names.
+    Replacement = 4,
+}
+
+/// The status of a notice's line, the field after its code: `LineStatus::Rate as u64` is 2.
+#[derive(Clone, Copy, Debug, PartialEq, Eq, Hash)]
+pub enum LineStatus {
+    /// Closes the code.
+    Delete = 0,
+    /// Blocks the code.
+    Block = 1,
+    /// Gives the code a rate and increments.
+    Rate = 2,
+}
 
 /// A day, counted from 0 in the supplier's contract time zone.
 ///
@@ -76,6 +124,8 @@ impl Day {
     pub const LAST: Day = Day(65_000);
     /// The last day on which a notice can be received, and the last of a standing list.
     pub const LAST_RECEIVED: Day = Day(60_000);
+    /// The seconds of a day.
+    pub const SECONDS: u64 = 86_400;
 }
 
 /// A moment, counted in seconds from the beginning of day 0.
@@ -100,8 +150,9 @@ impl Moment {
     pub const END: Moment = Moment(5_616_086_400);
 
     /// The day of the moment.
+    #[must_use]
     pub const fn day(self) -> Day {
-        Day(self.0 / 86_400)
+        Day(self.0 / Day::SECONDS)
     }
 }
 
@@ -142,6 +193,7 @@ pub struct Applied {
 }
 
 /// An offer for a number on a day.
+#[must_use]
 #[derive(Clone, Copy, Debug, PartialEq, Eq, Hash)]
 pub enum Offer {
     /// There is none.
@@ -160,6 +212,7 @@ pub enum Offer {
 }
 
 /// The answer to a number.
+#[must_use]
 #[derive(Clone, Copy, Debug, PartialEq, Eq, Hash)]
 pub struct Answer {
     /// The key of the number's longest beginning that is open or blocked; none with [`Offer::Closed`].
@@ -169,6 +222,7 @@ pub struct Answer {
 }
 
 /// A rated call.
+#[must_use]
 #[derive(Clone, Copy, Debug, PartialEq, Eq, Hash)]
 pub struct Call {
     /// The key of the code that priced the call.
@@ -179,7 +233,8 @@ pub struct Call {
     pub charge: u64,
 }
 
-/// A rated batch. It has `rated + refused` calls.
+/// A rated batch. It has `rated + refused` calls, which [`read_rows`] reads.
+#[must_use]
 #[derive(Clone, Copy, Debug, PartialEq, Eq, Hash)]
 pub struct Batch {
     /// The calls rated.
@@ -202,6 +257,7 @@ fn refused_by(number: u64, key: u64) -> Result<(), Refusal> {
 /// ```
 /// assert_eq!(rate_book::words(100), 304);
 /// ```
+#[must_use]
 pub fn words(entries: usize) -> usize {
     ffi::words(entries as u64) as usize
 }
@@ -349,7 +405,7 @@ pub fn rate_call(
 /// let rated = rate_book::rate_batch(&book, &batch, &mut rows)?;
 /// assert_eq!(rated, Batch { rated: 1, refused: 1, total: 9_150_000 });
 ///
-/// let mut calls = rate_book::read_rows(&rows);
+/// let mut calls = rate_book::read_rows(&rated, &rows);
 /// assert_eq!(calls.next().unwrap()?.charge, 9_150_000);
 /// assert_eq!(calls.next(), Some(Err(Refusal::NoOffer)));
 /// assert_eq!(calls.next(), None);
@@ -374,19 +430,35 @@ fn read_row([refusal, key, charged_seconds, charge]: [u64; ROW_WORDS]) -> Result
     })
 }
 
-/// Reads the rows that [`rate_batch`] filled, each as [`rate_call`] answers for its call alone.
+/// Reads the rows that [`rate_batch`] filled for a batch, each as [`rate_call`] answers for its call alone. There are as many as the
+/// batch has calls, though the rows were lent for more.
 ///
 /// ```
-/// let calls: Vec<_> = rate_book::read_rows(&[42, 0, 0, 0]).collect();
-/// assert_eq!(calls, [Err(rate_book::Refusal::DurationTooLong)]);
+/// use rate_book::{Refusal, ROW_WORDS};
+///
+/// let mut book = [0; 4];
+/// rate_book::fresh(&mut book, 7)?;
+/// let mut rows = [0; 100 * ROW_WORDS];
+/// // One call, to 91 at moment 0, for 60 seconds.
+/// let rated = rate_book::rate_batch(&book, &[1, 2, 91, 0, 60], &mut rows)?;
+/// let calls: Vec<_> = rate_book::read_rows(&rated, &rows).collect();
+/// assert_eq!(calls, [Err(Refusal::NoOffer)]);
+/// # Ok::<(), Refusal>(())
 /// ```
-pub fn read_rows(rows: &[u64]) -> impl Iterator<Item = Result<Call, Refusal>> + '_ {
+pub fn read_rows<'a>(
+    batch: &Batch,
+    rows: &'a [u64],
+) -> impl ExactSizeIterator<Item = Result<Call, Refusal>> + 'a {
+    // A batch has at most MOST_CALLS calls.
+    let calls = batch.rated.saturating_add(batch.refused) as usize;
     rows.chunks_exact(ROW_WORDS)
+        .take(calls)
         .map(|row| read_row([row[0], row[1], row[2], row[3]]))
 }
 
 /// Writes the standing list of a day, at most [`Day::LAST_RECEIVED`], and gives its length in bytes: a full notice received that
-/// day with each open or blocked code. Later bytes are untouched.
+/// day with each open or blocked code. Later bytes are untouched. It takes at most [`LONGEST_LIST_HEAD`] bytes and
+/// [`LONGEST_LIST_LINE`] for each of the book's entries.
 ///
 /// Refused, in this order, by [`Refusal::BookTooShort`], [`Refusal::BookNotSound`], [`Refusal::TimeOutOfRange`],
 /// [`Refusal::NoOffer`] where nothing stands, and [`Refusal::BufferTooShort`].
@@ -403,6 +475,34 @@ pub fn read_rows(rows: &[u64]) -> impl Iterator<Item = Result<Call, Refusal>> + 
 /// let length = rate_book::list(&book, Day(101), &mut bytes)?;
 /// assert_eq!(bytes[..length], [1, 101, 1, 2, 91, 2, 8, 5, 1, 1, 0]);
 /// assert_eq!(rate_book::list(&book, Day(99), &mut bytes), Err(Refusal::NoOffer));
+/// # Ok::<(), Refusal>(())
+/// ```
+///
+/// # Loading a list
+///
+/// The notice period, earlier days and pending changes are not in a list: to keep a book, store its words. Load a list only into a
+/// fresh book of notice period 0. With a notice period N its blocks, which are increases, wait N days, and until then a blocked code
+/// is open where a shorter code is. What the list's day gave then holds for all days from it on, also where a close or another price
+/// was pending. The word [`WORD_PERIOD`] of the book left may then be set to the contract's notice period, 0 to [`LONGEST_PERIOD`],
+/// for the notices to come.
+///
+/// ```
+/// use rate_book::{Day, Offer, Refusal, WORD_PERIOD};
+///
+/// // A list of day 20: 44 at 0.05 a minute, 4470 blocked.
+/// let list = [1, 20, 2, 2, 44, 2, 2, 5, 1, 1, 0, 4, 0xF6, 0x22, 1, 0];
+/// let mut fresh = [0; 10];
+/// let mut book = [0; 10];
+///
+/// // With a notice period of 7 days the block waits for day 27.
+/// rate_book::fresh(&mut fresh, 7)?;
+/// rate_book::apply(&fresh, &list, &mut book)?;
+/// assert_ne!(rate_book::lookup(&book, b"4470", Day(26))?.offer, Offer::Blocked);
+///
+/// rate_book::fresh(&mut fresh, 0)?;
+/// rate_book::apply(&fresh, &list, &mut book)?;
+/// book[WORD_PERIOD] = 7;
+/// assert_eq!(rate_book::lookup(&book, b"4470", Day(20))?.offer, Offer::Blocked);
 /// # Ok::<(), Refusal>(())
 /// ```
 pub fn list(book: &[u64], day: Day, out: &mut [u8]) -> Result<usize, Refusal> {

@@ -2,6 +2,13 @@ use crate::Key;
 use std::fmt;
 
 /// Why a call was refused. A refused call leaves all lent memory as it was.
+///
+/// The compiler warns where a call's result is dropped, and a refusal with it:
+///
+/// ```compile_fail
+/// #![deny(unused_must_use)]
+/// rate_book::fresh(&mut [0; 4], 7);
+/// ```
 #[derive(Clone, Copy, Debug, PartialEq, Eq, Hash)]
 pub enum Refusal {
     /// 1: bytes end before a due field's end, short of nine bytes.
@@ -51,6 +58,7 @@ pub enum Refusal {
 
 impl Refusal {
     /// The refusal number of the specification.
+    #[must_use]
     pub const fn number(self) -> u64 {
         match self {
             Refusal::BytesEnd => 1,
@@ -78,6 +86,7 @@ impl Refusal {
     }
 
     /// The cause, for a person.
+    #[must_use]
     pub const fn cause(self) -> &'static str {
         match self {
             Refusal::BytesEnd => "bytes end before a due field's end",

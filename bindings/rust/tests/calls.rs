@@ -2,14 +2,15 @@
 //! memory.
 use rate_book::{
     apply, fresh, list, lookup, rate_batch, rate_call, read_rows, words, Answer, Applied, Batch,
-    Call, Day, Key, Moment, Offer, Refusal, ROW_WORDS,
+    Call, Day, Key, Kind, LineStatus, Moment, Offer, Refusal, LONGEST_PERIOD, ROW_WORDS,
+    WORD_LAST_RECEIVED, WORD_LATEST_EFFECTIVE, WORD_PERIOD,
 };
 
 const CENT: u64 = 1_000_000;
-const FULL: u64 = 1;
-const PARTIAL: u64 = 2;
-const UPDATE: u64 = 3;
-const REPLACEMENT: u64 = 4;
+const FULL: u64 = Kind::Full as u64;
+const PARTIAL: u64 = Kind::Partial as u64;
+const UPDATE: u64 = Kind::Update as u64;
+const REPLACEMENT: u64 = Kind::Replacement as u64;
 const P1: [u8; 13] = [
     0x03, 0x64, 0x01, 0x05, 0xB8, 0xB7, 0x01, 0x02, 0x02, 0x09, 0x01, 0x01, 0x00,
 ];
@@ -35,7 +36,13 @@ fn digits(code: &str) -> [u64; 2] {
 /// A rate line: hundred-millionths, increments, listed day.
 fn rated(code: &str, rate: u64, increments: [u64; 2], listed: Option<u64>) -> Vec<u64> {
     let mut line = digits(code).to_vec();
-    line.extend([2, 8, rate, increments[0], increments[1]]);
+    line.extend([
+        LineStatus::Rate as u64,
+        8,
+        rate,
+        increments[0],
+        increments[1],
+    ]);
     line.push(listed.map_or(0, |day| day + 1));
     line
 }
@@ -47,7 +54,7 @@ fn at(code: &str, rate: u64) -> Vec<u64> {
 
 fn blocked(code: &str) -> Vec<u64> {
     let mut line = digits(code).to_vec();
-    line.extend([1, 0]);
+    line.extend([LineStatus::Block as u64, 0]);
     line
 }
 
@@ -500,7 +507,10 @@ fn a_batch_rates_each_call_as_alone() {
             rate_call(&book, number.as_bytes(), Moment(moment), duration)
         })
         .collect();
-    assert_eq!(read_rows(written).collect::<Vec<_>>(), alone);
+    assert_eq!(
+        read_rows(&answer.unwrap(), &rows).collect::<Vec<_>>(),
+        alone
+    );
     for row in written.chunks(ROW_WORDS) {
         assert!(row[0] == 0 || row[2..] == [0, 0]);
         assert_eq!(row[1] != 0, row[0] == 0 || row[0] == 44);
@@ -521,7 +531,29 @@ fn numbers_that_fill_a_row_with_40() {
     let mut rows = vec![9; pairs.len() * ROW_WORDS];
     let answer = rate_batch(&book, &groups(&fields), &mut rows).unwrap();
     assert_eq!((answer.rated, answer.refused, answer.total), (0, 4, 0));
-    assert!(read_rows(&rows).all(|row| row == Err(Refusal::NotANumber)));
+    assert_eq!(
+        read_rows(&answer, &rows).collect::<Vec<_>>(),
+        [Err(Refusal::NotANumber); 4]
+    );
+}
+
+#[test]
+fn rows_are_read_for_the_calls_of_the_batch_alone() {
+    let book = priced();
+    // Rows for 100 calls. The rows after the batch's own hold zeros, which would read as rated calls.
+    let mut rows = vec![0; 100 * ROW_WORDS];
+    let answer = rate_batch(&book, &batch_of(&FEED[..4]), &mut rows).unwrap();
+    assert_eq!((answer.rated, answer.refused), (3, 1));
+    let calls = read_rows(&answer, &rows);
+    assert_eq!(calls.len(), 4);
+    let calls: Vec<_> = calls.collect();
+    assert_eq!(calls.len(), 4);
+    assert_eq!(calls.iter().filter(|call| call.is_ok()).count(), 3);
+    // Rows of another slice, too few: those that are there.
+    assert_eq!(read_rows(&answer, &rows[..2 * ROW_WORDS + 3]).count(), 2);
+
+    let none = rate_batch(&book, &[0], &mut rows).unwrap();
+    assert_eq!(read_rows(&none, &rows).count(), 0);
 }
 
 #[test]
@@ -603,6 +635,60 @@ fn the_standing_list() {
             lookup(&book, asked, Day(107))
         );
     }
+}
+
+#[test]
+fn a_list_loads_into_a_fresh_book_of_notice_period_0() {
+    let mut book = book_of(
+        7,
+        &[notice(UPDATE, 10, &[at("44", 5 * CENT), blocked("4470")])],
+    );
+    let mut bytes = [0; 99];
+    let length = list(&book, Day(20), &mut bytes).unwrap();
+    let listed = bytes[..length].to_vec();
+
+    // With a notice period the block waits, and until then the shorter code prices the number.
+    let trap = book_of(7, &[listed.clone()]);
+    assert_eq!(offer(&trap, "4470", 26), open(5 * CENT));
+    assert_eq!(code(&trap, "4470", 26), "44");
+    assert_eq!(offer(&trap, "4470", 27), Offer::Blocked);
+
+    let mut loaded = book_of(0, &[listed]);
+    assert_eq!(offer(&loaded, "4470", 19), Offer::Closed);
+    assert_eq!(offer(&loaded, "4470", 20), Offer::Blocked);
+    assert_eq!(loaded[WORD_LAST_RECEIVED], 20);
+    assert_eq!(loaded[WORD_LATEST_EFFECTIVE], 20);
+
+    // Any notice period in range leaves the book sound, and later notices go by it.
+    for period in [0, 7, LONGEST_PERIOD] {
+        loaded[WORD_PERIOD] = period;
+        assert_eq!(offer(&loaded, "4470", 20), Offer::Blocked);
+        let dearer = notice(UPDATE, 21, &[at("44", 6 * CENT)]);
+        let mut left = vec![9; loaded.len()];
+        apply(&loaded, &dearer, &mut left).unwrap();
+        assert_eq!(offer(&left, "44", 20 + period), open(5 * CENT));
+        assert_eq!(offer(&left, "44", 21 + period), open(6 * CENT));
+    }
+    loaded[WORD_PERIOD] = LONGEST_PERIOD + 1;
+    assert_eq!(
+        lookup(&loaded, b"4470", Day(20)),
+        Err(Refusal::BookNotSound)
+    );
+
+    // A close and a price that are pending on the list's day are not in it.
+    let pending = [
+        rated("44", 6 * CENT, [1, 1], Some(40)),
+        [&digits("4470")[..], &[LineStatus::Delete as u64, 41]].concat(),
+    ];
+    let mut left = vec![9; book.len()];
+    apply(&book, &notice(UPDATE, 21, &pending), &mut left).unwrap();
+    book = left;
+    assert_eq!(offer(&book, "44", 40), open(6 * CENT));
+    assert_eq!(offer(&book, "4470", 40), open(6 * CENT));
+    let length = list(&book, Day(21), &mut bytes).unwrap();
+    let loaded = book_of(0, &[bytes[..length].to_vec()]);
+    assert_eq!(offer(&loaded, "44", 65_000), open(5 * CENT));
+    assert_eq!(offer(&loaded, "4470", 65_000), Offer::Blocked);
 }
 
 #[test]
