@@ -4,7 +4,6 @@ use mathlib.Core.Bool.{Bool, true, false, cond, _&&_}
 use mathlib.Core.List.{List, [], _∷_}
 use Prim.Native.Nat.{ℕ, zero, suc}
 use lib.Dec.{eqb, leb}
-
 use Rattle.dial_code.specs.Key.{key}
 use Rattle.rate.specs.Price.{rate}
 use Rattle.rate.specs.OfferWord.{offerOf}

@@ -11,9 +11,9 @@ use Rattle.dial_code.proofs.CodeLaws.{beyond-keys, no-first-digit}
 use Rattle.book.specs.Soundness.{soundEntries}
 use Rattle.book.specs.declared.Entry.{Entry}
 use Rattle.book.proofs.SoundLists.{Allowed, After, same, next, SoundFrom, Sound, to-sound, after-key}
-use Rattle.update.specs.Passes.{restFrom, restAfter}
-use Rattle.update.proofs.PassCases.{from-cases, after-cases}
-use Rattle.update.proofs.PassKeys.{Keys}
+use Rattle.merge.specs.Passes.{restFrom, restAfter}
+use Rattle.merge.proofs.PassCases.{from-cases, after-cases}
+use Rattle.merge.proofs.PassKeys.{Keys}
 
 -- a list that is sound after key k, from a day on that no entry of key k has
 abbrev pub Beyond : ℕ → List Entry → Type 0

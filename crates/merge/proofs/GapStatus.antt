@@ -13,9 +13,9 @@ use Rattle.book.specs.declared.Entry.{Entry}
 use Rattle.book.proofs.SoundLists.{SoundFrom}
 use Rattle.book.proofs.Statuses.{smaller, gives, other-key, later-day, stands-later, untouched}
 use Rattle.history.proofs.ChangeLaws.{status-append}
-use Rattle.update.specs.Passes.{goesOn, unlistedOne, gapBelow}
-use Rattle.update.proofs.PassCases.{unlisted-cases, gap-cases}
-use Rattle.update.proofs.PassKeys.{Keys, Apart, Without, keys-unlisted}
+use Rattle.merge.specs.Passes.{goesOn, unlistedOne, gapBelow}
+use Rattle.merge.proofs.PassCases.{unlisted-cases, gap-cases}
+use Rattle.merge.proofs.PassKeys.{Keys, Apart, Without, keys-unlisted}
 
 -- entries of other keys change no status
 pub without-status : (w : ℕ) (es : List Entry) (x d : ℕ) → Without x es → statusFrom w es x d ≡ w

@@ -10,8 +10,8 @@ use Rattle.book.specs.Status.{statusFrom}
 use Rattle.book.specs.declared.Entry.{Entry}
 use Rattle.book.proofs.SoundLists.{After, same, next, SoundFrom}
 use Rattle.book.proofs.Statuses.{smaller, gives, other-key, later-day, untouched}
-use Rattle.update.specs.Passes.{restFrom, placed, listedGroup, restAfter}
-use Rattle.update.proofs.PassCases.{from-cases, after-cases, placed-cases, group-cases}
+use Rattle.merge.specs.Passes.{restFrom, placed, listedGroup, restAfter}
+use Rattle.merge.proofs.PassCases.{from-cases, after-cases, placed-cases, group-cases}
 
 -- The entries from a key on have the statuses of those keys, and so have the entries after a key.
 pub from-status : (w k : ℕ) (es : List Entry) (x d : ℕ) → k ≤ x → statusFrom w (restFrom k es) x d ≡ statusFrom w es x d

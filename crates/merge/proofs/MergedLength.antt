@@ -4,21 +4,20 @@ use mathlib.Core.Bool.{Bool}
 use mathlib.Core.List.{List, [], _∷_, _++_}
 use Prim.Native.Nat.{ℕ, suc, _+_, _*_, _≤_}
 use native.Mathlib.Omega.{arith}
-use lib.ListN.{length, drop, length-append}
+use lib.ListN.{length, length-append}
 use Rattle.dial_code.specs.Key.{keysEnd}
-use Rattle.notice.specs.NoticeRule.{lines}
+use Rattle.rate.specs.declared.Offer.{Offer}
 use Rattle.notice.specs.declared.Line.{Line}
-use Rattle.notice.specs.declared.Summary.{Summary}
-use Rattle.notice.proofs.LinesLaws.{lines-length}
-use Rattle.book.specs.Layout.{countOf, entriesOf}
+use Rattle.book.specs.Layout.{headerWords, entriesFrom}
+use Rattle.book.specs.Soundness.{headedCount}
 use Rattle.book.specs.declared.Entry.{Entry}
-use Rattle.book.proofs.Rows.{length-entries}
-use Rattle.history.specs.Effect.{Known}
-use Rattle.history.specs.Applying.{inBook}
-use Rattle.update.specs.Passes.{unlistedOne, gapBelow, restFrom, placed, listedGroup, restAfter, merged}
-use Rattle.update.specs.Plans.{changesBy, closesBy, linesRead, sentLines, mergedBy}
-use Rattle.update.specs.declared.Plan.{Plan}
-use Rattle.update.proofs.PassCases.{in-parts, unlisted-cases, gap-cases, from-cases, after-cases, placed-cases, group-cases}
+use Rattle.book.proofs.Rows.{length-rows}
+use Rattle.effect.specs.Lines.{foundIn, changesBy}
+use Rattle.effect.specs.Closings.{closesBy}
+use Rattle.effect.specs.declared.Plan.{Plan}
+use Rattle.merge.specs.Passes.{unlistedOne, gapBelow, restFrom, placed, listedGroup, restAfter, merged}
+use Rattle.merge.specs.Merge.{mergedBy}
+use Rattle.merge.proofs.PassCases.{in-parts, unlisted-cases, gap-cases, from-cases, after-cases, placed-cases, group-cases}
 
 module _ (closes : ℕ → Bool) (day : ℕ) where
   one-length : (e : Entry) (es : List Entry) → length (unlistedOne closes day e es) ≤ 2
@@ -88,21 +87,20 @@ merged-length end closes day es (c ∷ cs) =
       merged-length end closes day more cs,
     )
 
-length-changes : (p : Plan) (before : Known) (ls : List Line) → length (changesBy p before ls) ≡ length ls
+length-changes : (p : Plan) (found : ℕ → ℕ → Offer) (ls : List Line) → length (changesBy p found ls) ≡ length ls
 unfolding changesBy
-length-changes p before [] = refl
-length-changes p before (l ∷ ls) = ap suc (length-changes p before ls)
+length-changes p found [] = refl
+length-changes p found (l ∷ ls) = ap suc (length-changes p found ls)
 
 -- The same of a book and the lines of a notice.
-pub merged-most : (ws : List ℕ) (p : Plan) (marks s : List ℕ) (m : Summary) → linesRead s m ≡ lines (sentLines s m)
-    → length (mergedBy ws p marks (sentLines s m)) ≤ countOf ws * 2 + m .lines
+pub merged-most :
+    (ws : List ℕ) (p : Plan) (marks : List ℕ) (ls : List Line)
+    → length (mergedBy ws p marks ls) ≤ headedCount ws * 2 + length ls
 unfolding mergedBy
-merged-most ws p marks s m e =
-    let ls = sentLines s m in
+merged-most ws p marks ls =
     omega (
       arith,
-      merged-length keysEnd (closesBy p marks) (p .closing) (entriesOf ws) (changesBy p (inBook ws) ls),
-      length-entries ws,
-      length-changes p (inBook ws) ls,
-      lines-length (m .lines) (m .country) 0 0 (drop (m .start) s) ls e,
+      merged-length keysEnd (closesBy p marks) (p .closing) (entriesFrom ws headerWords (headedCount ws)) (changesBy p (foundIn ws) ls),
+      length-rows ws headerWords (headedCount ws),
+      length-changes p (foundIn ws) ls,
     )

@@ -11,10 +11,10 @@ use Rattle.rate.specs.OfferWord.{offerOf}
 use Rattle.book.specs.Soundness.{isOfferWord, soundEntries}
 use Rattle.book.specs.declared.Entry.{Entry}
 use Rattle.book.proofs.SoundLists.{Allowed, After, same, next, SoundFrom, after-key, to-sound, from-sound}
-use Rattle.update.specs.Passes.{goesOn, gapBelow, restFrom, placed, listedGroup, merged}
-use Rattle.update.proofs.PassCases.{in-parts, unlisted-cases, gap-cases, placed-cases, group-cases}
-use Rattle.update.proofs.Beyond.{Beyond, beyond-sound, begins-sound, sound-beyond, from-begins, behind, behind-beyond}
-use Rattle.update.proofs.MergedStatus.{Rising}
+use Rattle.merge.specs.Passes.{goesOn, gapBelow, restFrom, placed, listedGroup, merged}
+use Rattle.merge.proofs.PassCases.{in-parts, unlisted-cases, gap-cases, placed-cases, group-cases}
+use Rattle.merge.proofs.Beyond.{Beyond, beyond-sound, begins-sound, sound-beyond, from-begins, behind, behind-beyond}
+use Rattle.merge.proofs.MergedStatus.{Rising}
 
 -- closed is an offer word
 closed-word : isOfferWord 0 ≡ true

@@ -13,13 +13,13 @@ use Rattle.book.specs.Status.{statusFrom, statusIn}
 use Rattle.book.specs.declared.Entry.{Entry}
 use Rattle.book.proofs.SoundLists.{to-sound}
 use Rattle.history.proofs.ChangeLaws.{status-append}
-use Rattle.update.specs.Passes.{gapBelow, restFrom, listedGroup, merged}
-use Rattle.update.proofs.PassCases.{in-parts}
-use Rattle.update.proofs.PassKeys.{Keys, Apart, Without}
-use Rattle.update.proofs.PassKeys.{keys-map, keys-append, keys-from, keys-after, keys-group, keys-below, keys-merged}
-use Rattle.update.proofs.Beyond.{Beyond, sound-beyond, keys-beyond, from-begins, behind, behind-beyond}
-use Rattle.update.proofs.GapStatus.{without-status, gap-status}
-use Rattle.update.proofs.GroupStatus.{from-status, after-status, group-status}
+use Rattle.merge.specs.Passes.{gapBelow, restFrom, listedGroup, merged}
+use Rattle.merge.proofs.PassCases.{in-parts}
+use Rattle.merge.proofs.PassKeys.{Keys, Apart, Without}
+use Rattle.merge.proofs.PassKeys.{keys-map, keys-append, keys-from, keys-after, keys-group, keys-below, keys-merged}
+use Rattle.merge.proofs.Beyond.{Beyond, sound-beyond, keys-beyond, from-begins, behind, behind-beyond}
+use Rattle.merge.proofs.GapStatus.{without-status, gap-status}
+use Rattle.merge.proofs.GroupStatus.{from-status, after-status, group-status}
 
 -- Changes by rising keys, above one key and below another.
 unfoldable pub Rising : ℕ → ℕ → List Entry → Type 0

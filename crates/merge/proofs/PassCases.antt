@@ -7,7 +7,7 @@ use borrow.Author.Tests.{ltb-true, ltb-false, eqb-true, eqb-false}
 use lib.Dec.{eqb, ltb}
 use Rattle.book.specs.Layout.{entry}
 use Rattle.book.specs.declared.Entry.{Entry}
-use Rattle.update.specs.Passes.{goesOn, closedOne, unlistedAs, unlistedOne, gapBelow, restFrom, placed, listedGroup, restAfter, lineEntries, lineRest, merged}
+use Rattle.merge.specs.Passes.{goesOn, closedOne, unlistedAs, unlistedOne, gapBelow, restFrom, placed, listedGroup, restAfter, lineEntries, lineRest, merged}
 
 module _ (P : List Entry → Type 0) where
   chosen : (t : Bool) (xs ys : List Entry) → (t ≡ true → P xs) → (t ≡ false → P ys) → P (cond t xs ys)

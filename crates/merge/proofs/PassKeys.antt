@@ -4,8 +4,8 @@ use mathlib.Core.Bool.{Bool}
 use mathlib.Core.List.{List, [], _∷_, _++_}
 use Prim.Native.Nat.{ℕ, _<_}
 use Rattle.book.specs.declared.Entry.{Entry}
-use Rattle.update.specs.Passes.{unlistedOne, gapBelow, restFrom, placed, listedGroup, restAfter, merged}
-use Rattle.update.proofs.PassCases.{in-parts, unlisted-cases, gap-cases, from-cases, after-cases, placed-cases, group-cases}
+use Rattle.merge.specs.Passes.{unlistedOne, gapBelow, restFrom, placed, listedGroup, restAfter, merged}
+use Rattle.merge.proofs.PassCases.{in-parts, unlisted-cases, gap-cases, from-cases, after-cases, placed-cases, group-cases}
 
 -- every key of a list has a property
 unfoldable pub Keys : (ℕ → Type 0) → List Entry → Type 0

@@ -7,21 +7,21 @@ use native.Mathlib.Omega.{arith}
 use borrow.Author.Tests.{lt-ltb, le-ltb, eq-eqb, ne-eqb}
 use lib.Dec.{eqb, ltb}
 use lib.ListN.{length, length-append}
-use Rattle.book.specs.Layout.{entry, entryAt, entriesFrom}
+use Rattle.book.specs.Layout.{entryWords, entry, entryAt, entriesFrom}
 use Rattle.book.specs.declared.Entry.{Entry}
 use Rattle.book.proofs.Rows.{rows-step, length-rows}
-use Rattle.update.specs.Passes.{goesOn, closedOne, unlistedAs, gapBelow, restFrom, placed, listedGroup}
-use Rattle.update.specs.Passes.{keptOf, statusOf, restAfter, lineEntries, lineRest}
-use Rattle.update.specs.Standing.{Passed}
-use Rattle.update.specs.declared.Place.{Place}
+use Rattle.merge.specs.Passes.{goesOn, closedOne, unlistedAs, gapBelow, restFrom, placed, listedGroup}
+use Rattle.merge.specs.Passes.{keptOf, statusOf, restAfter, lineEntries, lineRest}
+use Rattle.merge.specs.Merge.{Passed}
+use Rattle.merge.specs.declared.Place.{Place}
 
 -- The next entry of some.
 pub next-row :
     (ws : List ℕ) (at n : ℕ) {e : Entry}
     → 0 < n
     → e ≡ entryAt ws at
-    → entriesFrom ws at n ≡ e ∷ entriesFrom ws (at + 3) (n - 1)
-next-row ws at n h q = rows-step ws at n h ∙ ap (λ (e : Entry). e ∷ entriesFrom ws (at + 3) (n - 1)) (sym q)
+    → entriesFrom ws at n ≡ e ∷ entriesFrom ws (at + entryWords) (n - 1)
+next-row ws at n h q = rows-step ws at n h ∙ ap (λ (e : Entry). e ∷ entriesFrom ws (at + entryWords) (n - 1)) (sym q)
 
 -- Whether the next entry goes on: none, one of another code, one of the same.
 module _ (day : ℕ) (e : Entry) where

@@ -2,15 +2,15 @@
 use mathlib.Core.Path.{_≡_, refl, ap, sym, _∙_}
 use mathlib.Core.Bool.{Bool, true, false}
 use mathlib.Core.List.{List, [], _∷_, _++_}
-use Prim.Native.Nat.{ℕ, suc, _+_, _*_, _≤_}
-use native.Mathlib.Numerals.{add-one}
+use Prim.Native.Nat.{ℕ, _+_, _*_}
 use native.Mathlib.Omega.{arith}
-use lib.ListN.{length, set, length-append}
+use lib.ListN.{length, length-append}
 use lib.Seq.{sets, length-sets}
-use Rattle.book.specs.Layout.{wordsOf}
+use Rattle.book.specs.Layout.{headerWords, entryWords, wordsOf}
 use Rattle.book.specs.declared.Entry.{Entry}
 use Rattle.book.proofs.BookWords.{length-words}
-use Rattle.update.specs.Plans.{stored}
+use Rattle.book.proofs.Places.{sets-on}
+use Rattle.merge.specs.Merge.{stored}
 
 pub stored-nil : (write : Bool) (l : List ℕ) (i : ℕ) → stored write l i [] ≡ l
 stored-nil true l i = refl
@@ -19,11 +19,6 @@ stored-nil false l i = refl
 pub length-stored : (write : Bool) (l : List ℕ) (i : ℕ) (vs : List ℕ) → length (stored write l i vs) ≡ length l
 length-stored true l i vs = length-sets l i vs
 length-stored false l i vs = refl
-
-pub sets-on : (l : List ℕ) (i : ℕ) (xs ys : List ℕ) → sets (sets l i xs) (i + length xs) ys ≡ sets l i (xs ++ ys)
-sets-on l i [] ys = ap (λ (n : ℕ). sets l n ys) (omega arith)
-sets-on l i (x ∷ xs) ys =
-    ap (λ (n : ℕ). sets (sets (set l i x) (suc i) xs) n ys) (omega arith) ∙ sets-on (set l i x) (suc i) xs ys
 
 pub stored-on :
     (write : Bool) (l : List ℕ) (i : ℕ) (xs ys : List ℕ)
@@ -41,28 +36,20 @@ unfolding wordsOf
 words-on [] fs = refl
 words-on (e ∷ es) fs = ap (λ (ws : List ℕ). e .key ∷ e .day ∷ e .offer ∷ ws) (words-on es fs)
 
-pub one-stored :
-    (l : List ℕ) (at : ℕ) (e : Entry)
-    → set (set (set l at (e .key)) (at + 1) (e .day)) (at + 2) (e .offer) ≡ sets l at (wordsOf (e ∷ []))
-unfolding wordsOf
-one-stored l at e =
-    let two : at + 2 ≡ suc (suc at) = omega arith in
-    rw (add-one, two)
-
 -- Entries put after others.
 pub puts-on :
     (write : Bool) (l : List ℕ) {m r : List ℕ} (n k : ℕ) (es fs : List Entry)
     → k ≡ n + length es
-    → m ≡ stored write l (4 + n * 3) (wordsOf es)
-    → r ≡ stored write m (4 + k * 3) (wordsOf fs)
-    → r ≡ stored write l (4 + n * 3) (wordsOf (es ++ fs))
+    → m ≡ stored write l (headerWords + n * entryWords) (wordsOf es)
+    → r ≡ stored write m (headerWords + k * entryWords) (wordsOf fs)
+    → r ≡ stored write l (headerWords + n * entryWords) (wordsOf (es ++ fs))
 puts-on write l n k es fs q p s =
-    let place : 4 + k * 3 ≡ 4 + n * 3 + length (wordsOf es) = omega (arith, length-words es) in
+    let place : headerWords + k * entryWords ≡ headerWords + n * entryWords + length (wordsOf es) = omega (arith, length-words es) in
     s
-    ∙ ap (λ (ws : List ℕ). stored write ws (4 + k * 3) (wordsOf fs)) p
-    ∙ ap (λ (i : ℕ). stored write (stored write l (4 + n * 3) (wordsOf es)) i (wordsOf fs)) place
-    ∙ stored-on write l (4 + n * 3) (wordsOf es) (wordsOf fs)
-    ∙ ap (stored write l (4 + n * 3)) (sym (words-on es fs))
+    ∙ ap (λ (ws : List ℕ). stored write ws (headerWords + k * entryWords) (wordsOf fs)) p
+    ∙ ap (λ (i : ℕ). stored write (stored write l (headerWords + n * entryWords) (wordsOf es)) i (wordsOf fs)) place
+    ∙ stored-on write l (headerWords + n * entryWords) (wordsOf es) (wordsOf fs)
+    ∙ ap (stored write l (headerWords + n * entryWords)) (sym (words-on es fs))
 
 -- A pass that puts `all` from `n₀` on into `l₀`, part of the way: `n` entries stand in `l`, and putting the rest does it.
 pub record Writing
@@ -70,7 +57,7 @@ pub record Writing
     : Type 0 where
   pub same : length l ≡ length l₀
   pub counts : n + length rest ≡ n₀ + length all
-  pub writes : stored write l (4 + n * 3) (wordsOf rest) ≡ stored write l₀ (4 + n₀ * 3) (wordsOf all)
+  pub writes : stored write l (headerWords + n * entryWords) (wordsOf rest) ≡ stored write l₀ (headerWords + n₀ * entryWords) (wordsOf all)
 
 pub writing-all : (write : Bool) (l : List ℕ) (n : ℕ) (es : List Entry) → Writing write l n es l n es
 writing-all write l n es = record { same = refl; counts = refl; writes = refl }
@@ -87,15 +74,15 @@ module _
         (xs rest : List Entry) {m : List ℕ} (k : ℕ)
         → ys ≡ xs ++ rest
         → k ≡ n + length xs
-        → m ≡ stored write l (4 + n * 3) (wordsOf xs)
+        → m ≡ stored write l (headerWords + n * entryWords) (wordsOf xs)
         → Writing write l₀ n₀ all m k rest
     writing-on xs rest {m} k q e s =
         record {
-          same = ap length s ∙ length-stored write l (4 + n * 3) (wordsOf xs) ∙ p .same;
+          same = ap length s ∙ length-stored write l (headerWords + n * entryWords) (wordsOf xs) ∙ p .same;
           counts = omega (arith, p .counts, ap length q, length-append xs rest);
           writes =
               puts-on write l n k xs rest e s refl
-              ∙ ap (λ (zs : List Entry). stored write l (4 + n * 3) (wordsOf zs)) (sym q)
+              ∙ ap (λ (zs : List Entry). stored write l (headerWords + n * entryWords) (wordsOf zs)) (sym q)
               ∙ p .writes;
         }
 
@@ -103,18 +90,9 @@ module _
     pub writing-counted : ys ≡ [] → n ≡ n₀ + length all
     writing-counted q = omega (arith, p .counts, ap length q)
 
-    pub writing-end : ys ≡ [] → l ≡ stored write l₀ (4 + n₀ * 3) (wordsOf all)
+    pub writing-end : ys ≡ [] → l ≡ stored write l₀ (headerWords + n₀ * entryWords) (wordsOf all)
     writing-end q =
-        sym (stored-nil write l (4 + n * 3))
-        ∙ ap (stored write l (4 + n * 3)) (sym no-words)
-        ∙ ap (λ (zs : List Entry). stored write l (4 + n * 3) (wordsOf zs)) (sym q)
+        sym (stored-nil write l (headerWords + n * entryWords))
+        ∙ ap (stored write l (headerWords + n * entryWords)) (sym no-words)
+        ∙ ap (λ (zs : List Entry). stored write l (headerWords + n * entryWords) (wordsOf zs)) (sym q)
         ∙ p .writes
-
-    -- there is room for the next ones where there is for all
-    pub writing-room :
-        (xs rest : List Entry)
-        → ys ≡ xs ++ rest
-        → (write ≡ true → 4 + (n₀ + length all) * 3 ≤ length l₀)
-        → write ≡ true
-        → 4 + (n + length xs) * 3 ≤ length l
-    writing-room xs rest q room w = omega (arith, room w, p .counts, p .same, ap length q, length-append xs rest)

@@ -7,21 +7,27 @@ use native.Mathlib.Omega.{arith}
 use borrow.Author.Tests.{lt-ltb, le-ltb, leb-true, eq-eqb, ne-eqb}
 use lib.Dec.{leb}
 use lib.ListN.{length}
-use Rattle.notice.specs.NoticeRule.{Notice, notice, unread, lines, readNotice, checkNotice}
+use Rattle.notice.specs.NoticeRule.{mostLines, Notice, notice, unread, readNotice, checkNotice}
 use Rattle.notice.specs.declared.Summary.{Summary}
 use Rattle.notice.specs.declared.Checked.the-variants as checked
 use Rattle.notice.proofs.Checking.{Passed, check-passed, check-refused}
 use Rattle.notice.proofs.NoticeLaws.{notice-valid, notice-refusals}
-use Rattle.book.specs.Layout.{periodOf, receivedOf, latestOf, held, bookOf}
+use Rattle.refusal.specs.Refusal.{bookTooShort, receivedEarlier, bookFull}
+use Rattle.rate.specs.Time.{lastReceivedDay}
+use Rattle.book.specs.Layout.{headerWords, entryWords, periodOf, receivedOf, latestOf, held, bookOf}
 use Rattle.book.specs.Soundness.{sound}
 use Rattle.book.specs.Answers.{bookRefusal}
 use Rattle.book.specs.declared.Entry.{Entry}
 use Rattle.book.proofs.Headers.{sound-book, held-fits}
 use Rattle.book.proofs.Usable.{usable-book}
-use Rattle.history.specs.Applying.{inBook, afterBook, newEntries, judgedBy, applyRefusal, refusedApply, applyAnswer, applied}
+use Rattle.history.specs.Applying.{afterBook, newEntries, judgedBy, applyRefusal, refusedApply, applyAnswer, applied}
 use Rattle.history.specs.declared.Applied.{Applied}
-use Rattle.update.specs.Plans.{planOf, marksFor, linesIn, linesRead, sentLines, mergedBy, latestBy}
-use Rattle.update.specs.declared.Plan.{Plan}
+use Rattle.update.specs.Plans.{planOf, marksFor}
+use Rattle.effect.specs.Lines.{foundIn, latestBy}
+use Rattle.effect.specs.declared.Plan.{Plan}
+use Rattle.merge.specs.Lines.{linesAt}
+use Rattle.merge.specs.Merge.{mergedBy}
+use Rattle.merge.proofs.LinesAgain.{lines-again}
 use Rattle.update.proofs.NewEntries.{new-facts}
 
 -- A refused apply answers its refusal, and leaves every word as it was.
@@ -38,22 +44,22 @@ unfolding applyRefusal
 no-old ws s len n = rw (ne-eqb (bookRefusal ws) 0 n)
 
 module _ (ws s : List ℕ) (len : ℕ) (b : bookRefusal ws ≡ 0) where
-  pub no-new : len < 4 → applyRefusal ws s len ≡ 20
+  pub no-new : len < headerWords → applyRefusal ws s len ≡ bookTooShort
   unfolding applyRefusal
-  no-new h = rw (eq-eqb (bookRefusal ws) 0 b, lt-ltb len 4 h)
+  no-new h = rw (eq-eqb (bookRefusal ws) 0 b, lt-ltb len headerWords h)
 
-  module _ (h : 4 ≤ len) where
+  module _ (h : headerWords ≤ len) where
     pub no-notice : {e : ℕ} → readNotice s ≡ unread e → applyRefusal ws s len ≡ e
     unfolding applyRefusal
-    no-notice r = rw (eq-eqb (bookRefusal ws) 0 b, le-ltb len 4 h, r)
+    no-notice r = rw (eq-eqb (bookRefusal ws) 0 b, le-ltb len headerWords h, r)
 
     judged : {n : Notice} → readNotice s ≡ notice n → applyRefusal ws s len ≡ judgedBy ws n len
     unfolding applyRefusal
-    judged r = rw (eq-eqb (bookRefusal ws) 0 b, le-ltb len 4 h, r)
+    judged r = rw (eq-eqb (bookRefusal ws) 0 b, le-ltb len headerWords h, r)
 
 -- A notice that the check refuses, with its number.
 pub refuses-notice : (ws s new : List ℕ) (e : ℕ) {r : Applied} → r ≡ refusedApply e → bookRefusal ws ≡ 0
-    → 4 ≤ length new → checkNotice s ≡ checked.Refused e → (r ≡ applyAnswer ws s (length new)) × (new ≡ applied ws s new)
+    → headerWords ≤ length new → checkNotice s ≡ checked.Refused e → (r ≡ applyAnswer ws s (length new)) × (new ≡ applied ws s new)
 refuses-notice ws s new e q b h k =
     let u = check-refused s e k in
     refuses ws s new e q (no-notice ws s (length new) b h u) (λ z. omega (arith, notice-refusals s e u .0))
@@ -61,10 +67,9 @@ refuses-notice ws s new e q b h k =
 -- What a checked notice tells: its lines, and the bounds on its received day and their number.
 pub record Ready (s : List ℕ) (m : Summary) : Type 0 where
   pub passed : Passed s m
-  pub sends : sentLines s m ≡ passed .sent .lines
-  pub reads : linesRead s m ≡ lines (sentLines s m)
-  pub received-most : m .received ≤ 60000
-  pub lines-most : m .lines ≤ 65535
+  pub sends : linesAt (m .lines) s (m .start) ≡ passed .sent .lines
+  pub received-most : m .received ≤ lastReceivedDay
+  pub lines-most : m .lines ≤ mostLines
 
 pub ready : (s : List ℕ) (m : Summary) → checkNotice s ≡ checked.Notice m → Ready s m
 ready s m k =
@@ -72,38 +77,37 @@ ready s m k =
     let v = notice-valid s (p .sent) (p .read) in
     record {
       passed = p;
-      sends = ap linesIn (p .on);
-      reads = p .on ∙ ap lines (sym (ap linesIn (p .on)));
+      sends = lines-again (m .lines) (m .country) 0 0 s (m .start) (p .sent .lines) (p .on);
       received-most = omega (arith, p .received, v .received-most);
       lines-most = omega (arith, p .count, v .few-lines);
     }
 
 -- A checked notice against a sound book: 10, 30, or the new book.
 module _
-    (ws s : List ℕ) (m : Summary) (new : List ℕ) (o : sound ws ≡ true) (h : 4 ≤ length new)
+    (ws s : List ℕ) (m : Summary) (new : List ℕ) (o : sound ws ≡ true) (h : headerWords ≤ length new)
     (k : checkNotice s ≡ checked.Notice m) where
   by-judge : applyRefusal ws s (length new) ≡ judgedBy ws (ready s m k .passed .sent) (length new)
   by-judge = judged ws s (length new) (usable-book ws (sound-book ws o .four) o) h (ready s m k .passed .read)
 
-  pub refuses-earlier : {r : Applied} → r ≡ refusedApply 10 → m .received < receivedOf ws
+  pub refuses-earlier : {r : Applied} → r ≡ refusedApply receivedEarlier → m .received < receivedOf ws
       → (r ≡ applyAnswer ws s (length new)) × (new ≡ applied ws s new)
   unfolding judgedBy
   refuses-earlier q l =
       let p = ready s m k .passed in
-      refuses ws s new 10 q
+      refuses ws s new receivedEarlier q
       (by-judge ∙ rw (lt-ltb (p .sent .received) (receivedOf ws) (omega (arith, p .received))))
       (λ z. omega arith)
 
   module _
       (l : receivedOf ws ≤ m .received) {p : Plan} (a : p ≡ planOf m (periodOf ws) (latestOf ws))
-      {marks : List ℕ} (b : marks ≡ marksFor (m .kind) (sentLines s m)) where
+      {marks : List ℕ} (b : marks ≡ marksFor (m .kind) (linesAt (m .lines) s (m .start))) where
     -- the merge's entries and latest day are those of the rules
-    pub merges : mergedBy ws p marks (sentLines s m) ≡ newEntries ws (ready s m k .passed .sent)
+    pub merges : mergedBy ws p marks (linesAt (m .lines) s (m .start)) ≡ newEntries ws (ready s m k .passed .sent)
     merges =
         let y = ready s m k in
         rw (a, b, y .sends) (new-facts ws s m o (y .passed) .0)
 
-    pub dates : latestBy p (inBook ws) (latestOf ws) (sentLines s m) ≡ afterBook ws (ready s m k .passed .sent) .latest
+    pub dates : latestBy p (foundIn ws) (latestOf ws) (linesAt (m .lines) s (m .start)) ≡ afterBook ws (ready s m k .passed .sent) .latest
     dates =
         let y = ready s m k in
         rw (a, y .sends) (new-facts ws s m o (y .passed) .1)
@@ -111,32 +115,32 @@ module _
     -- `kept` is the new book as counting leaves it, and `fits` whether it can hold the entries
     module _
         {kept : List ℕ} (q : kept ≡ new)
-        {fits : Bool} (t : fits ≡ leb (length (mergedBy ws p marks (sentLines s m))) (held (length new))) where
+        {fits : Bool} (t : fits ≡ leb (length (mergedBy ws p marks (linesAt (m .lines) s (m .start)))) (held (length new))) where
       tests : leb (length (newEntries ws (ready s m k .passed .sent))) (held (length new)) ≡ fits
       tests = ap (λ (es : List Entry). leb (length es) (held (length new))) (sym merges) ∙ sym t
 
-      pub refuses-full : {r : Applied} → r ≡ refusedApply 30 → fits ≡ false
+      pub refuses-full : {r : Applied} → r ≡ refusedApply bookFull → fits ≡ false
           → (r ≡ applyAnswer ws s (length new)) × (kept ≡ applied ws s new)
       unfolding judgedBy
       refuses-full u f =
           let y = ready s m k .passed in
           let z =
-          refuses ws s new 30 u
+          refuses ws s new bookFull u
           (by-judge ∙ rw (le-ltb (y .sent .received) (receivedOf ws) (omega (arith, y .received)), tests ∙ f))
           (λ z. omega arith) in
           (z .0, q ∙ z .1)
 
-      pub fill-room : fits ≡ true → 4 + length (mergedBy ws p marks (sentLines s m)) * 3 ≤ length kept
+      pub fill-room : fits ≡ true → headerWords + length (mergedBy ws p marks (linesAt (m .lines) s (m .start))) * entryWords ≤ length kept
       fill-room f =
-          let count = length (mergedBy ws p marks (sentLines s m)) in
+          let count = length (mergedBy ws p marks (linesAt (m .lines) s (m .start))) in
           omega (arith, ap length q, held-fits count (length new) h (leb-true count (held (length new)) (sym t ∙ f)) .1)
 
-      pub accepts : fits ≡ true → {count : ℕ} → count ≡ length (mergedBy ws p marks (sentLines s m))
-          → {latest : ℕ} → latest ≡ latestBy p (inBook ws) (latestOf ws) (sentLines s m)
+      pub accepts : fits ≡ true → {count : ℕ} → count ≡ length (mergedBy ws p marks (linesAt (m .lines) s (m .start)))
+          → {latest : ℕ} → latest ≡ latestBy p (foundIn ws) (latestOf ws) (linesAt (m .lines) s (m .start))
           → {next : List ℕ}
           → next
-          ≡ bookOf (length kept) (periodOf ws) (m .received) (latestBy p (inBook ws) (latestOf ws) (sentLines s m))
-          (mergedBy ws p marks (sentLines s m))
+          ≡ bookOf (length kept) (periodOf ws) (m .received) (latestBy p (foundIn ws) (latestOf ws) (linesAt (m .lines) s (m .start)))
+          (mergedBy ws p marks (linesAt (m .lines) s (m .start)))
           → (record { refusal = 0; entries = count; received = m .received; latest = latest } ≡ applyAnswer ws s (length new))
           × (next ≡ applied ws s new)
       unfolding judgedBy applyAnswer applied

@@ -1,19 +1,6 @@
--- The laws of applying a notice: its plan and marks, the passes, the merge, the new book's words, and the answers.
+-- The laws of applying a notice: its plan and marks, that the merge leaves the new book's entries, and the answers.
 pub mod Planning
-pub mod Passing
-pub mod Stores
-pub mod PassLaws
-pub mod Merging
-pub mod NewBook
-pub mod Answering
-pub mod PassCases
-pub mod PassKeys
-pub mod Beyond
-pub mod GapStatus
-pub mod GroupStatus
-pub mod MergedStatus
-pub mod MergedSound
-pub mod MergedLength
 pub mod PlanLaws
 pub mod Marks
 pub mod NewEntries
+pub mod Answering

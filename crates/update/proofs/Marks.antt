@@ -18,11 +18,12 @@ use Rattle.dial_code.specs.declared.Country.the-variants.{Code, None}
 use Rattle.dial_code.proofs.Tests.{both, and-left-true}
 use Rattle.dial_code.proofs.DigitLaws.{value-below}
 use Rattle.lookup.proofs.Matching.{word-digits}
-use Rattle.notice.specs.NoticeRule.{Notice, partial}
+use Rattle.notice.specs.NoticeRule.{Notice, full, partial, replacement}
 use Rattle.notice.specs.declared.Line.{Line}
 use Rattle.notice.specs.declared.Summary.{Summary}
 use Rattle.history.specs.Effect.{sameCountry, namedBy, inCountry, closes}
-use Rattle.update.specs.Plans.{planOf, marked, marksOf, noMarks, marksFor, isMarked, closesIn, closesBy}
+use Rattle.effect.specs.Closings.{isMarked, closesIn, closesBy}
+use Rattle.update.specs.Plans.{planOf, marked, marksOf, noMarks, marksFor}
 use Rattle.update.proofs.PlanLaws.{Summed}
 use Rattle.update.proofs.Planning.{length-marked}
 
@@ -133,8 +134,8 @@ pub closes-is :
     → closesBy (planOf m period latest) (marksFor (m .kind) (n .lines)) k ≡ closes n k
 unfolding closesBy closes planOf marksFor
 closes-is m n s period latest k =
-    ap (λ (t : Bool). cond (eqb (m .kind) 1) true t) (by-country (countryOfKey k) refl)
-    ∙ ap₂ (λ (kind c : ℕ). cond (eqb kind 1) true (cond (eqb kind 2) (namedBy (n .lines) k) (cond (eqb kind 4) (inCountry c (countryOfKey k)) false)))
+    ap (λ (t : Bool). cond (eqb (m .kind) full) true t) (by-country (countryOfKey k) refl)
+    ∙ ap₂ (λ (kind c : ℕ). cond (eqb kind full) true (cond (eqb kind partial) (namedBy (n .lines) k) (cond (eqb kind replacement) (inCountry c (countryOfKey k)) false)))
     (sym (s .kind)) (sym (s .country))
   where
     marks : List ℕ
@@ -155,6 +156,6 @@ closes-is m n s period latest k =
 
     by-country : (x : Country) → countryOfKey k ≡ x
         → closesIn (planOf m period latest) marks x
-        ≡ cond (eqb (m .kind) 2) (namedBy (n .lines) k) (cond (eqb (m .kind) 4) (inCountry (m .country) x) false)
-    by-country (Code c) e = by-marks c e (eqb (m .kind) 2) (cond (eqb (m .kind) 4) (eqb c (m .country)) false)
-    by-country None e = unnamed (eqb (m .kind) 2) (eqb (m .kind) 4) (none-named k (n .lines) e)
+        ≡ cond (eqb (m .kind) partial) (namedBy (n .lines) k) (cond (eqb (m .kind) replacement) (inCountry (m .country) x) false)
+    by-country (Code c) e = by-marks c e (eqb (m .kind) partial) (cond (eqb (m .kind) replacement) (eqb c (m .country)) false)
+    by-country None e = unnamed (eqb (m .kind) partial) (eqb (m .kind) replacement) (none-named k (n .lines) e)

@@ -1,37 +1,23 @@
--- The plan of a notice, the effective days of its lines, what it closes, and the marks: each by the tests of the code.
--- Assumes nothing.
-use mathlib.Core.Path.{_≡_, refl, ap, sym, _∙_}
-use mathlib.Core.Bool.{true, false}
+-- The plan of a notice and its marks, by the tests of the code. Assumes nothing.
+use mathlib.Core.Path.{_≡_, refl, sym, _∙_}
+use mathlib.Core.Bool.{true}
 use mathlib.Core.List.{List, [], _∷_}
-use Prim.Native.Nat.{ℕ, _+_, _/_, _≤_, _<_, max}
-use borrow.Author.Tests.{lt-ltb, le-ltb, eq-eqb, ne-eqb}
-use lib.Dec.{eqb, ltb}
-use lib.ListN.{length, getD, set, length-set}
+use Prim.Native.Nat.{ℕ, _+_, _≤_, max}
+use borrow.Author.Tests.{eq-eqb, ne-eqb}
+use lib.Dec.{ltb}
+use lib.ListN.{length, set, length-set}
 use lib.Seq.{set-out}
-use Rattle.dial_code.specs.Key.{digitsOfKey}
 use Rattle.dial_code.specs.CountryCode.{countryOfKey}
 use Rattle.dial_code.specs.declared.Country.{Country}
 use Rattle.dial_code.specs.declared.Country.the-variants.{Code, None}
-use Rattle.dial_code.proofs.CountryLaws.{same-country}
-use Rattle.rate.specs.OfferWord.{wordOf}
-use Rattle.rate.specs.declared.Rate.{Rate}
-use Rattle.rate.specs.declared.Offer.{Offer}
-use Rattle.rate.specs.declared.Offer.the-variants.{Open}
+use Rattle.notice.specs.NoticeRule.{partial, replacement}
 use Rattle.notice.specs.declared.Line.{Line}
 use Rattle.notice.specs.declared.Summary.{Summary}
-use Rattle.book.specs.Layout.{entry, entriesOf}
-use Rattle.book.specs.Status.{offerIn}
-use Rattle.lookup.specs.Match.{matched}
-use Rattle.lookup.specs.declared.Answer.{Answer}
-use Rattle.history.specs.Effect.{Known, above, increases}
-use Rattle.history.specs.Applying.{inBook}
-use Rattle.update.specs.Plans.{earliestWanted, planOf, wantedBy, effectiveBy, changeBy, closesIn, closesBy}
-use Rattle.update.specs.Plans.{marked, marksOf, noMarks, marksFor, isMarked}
-use Rattle.update.specs.declared.Plan.{Plan}
+use Rattle.update.specs.Plans.{earliestWanted, planOf, marked, marksOf, noMarks, marksFor}
 
 -- The plan of a replacement, and of another notice.
 module _ (m : Summary) (period latest : ℕ) {wanted : ℕ} where
-  pub replaces : {day : ℕ} → m .kind ≡ 4 → wanted ≡ earliestWanted m → day ≡ max wanted (m .received + period)
+  pub replaces : {day : ℕ} → m .kind ≡ replacement → wanted ≡ earliestWanted m → day ≡ max wanted (m .received + period)
       → record {
         kind = m .kind;
         country = m .country;
@@ -42,9 +28,9 @@ module _ (m : Summary) (period latest : ℕ) {wanted : ℕ} where
       }
       ≡ planOf m period latest
   unfolding planOf
-  replaces k w d = rw (d, w, eq-eqb (m .kind) 4 k)
+  replaces k w d = rw (d, w, eq-eqb (m .kind) replacement k)
 
-  pub keeps : (m .kind ≡ 4 → ⊥) → wanted ≡ earliestWanted m
+  pub keeps : (m .kind ≡ replacement → ⊥) → wanted ≡ earliestWanted m
       → record {
         kind = m .kind;
         country = m .country;
@@ -55,7 +41,7 @@ module _ (m : Summary) (period latest : ℕ) {wanted : ℕ} where
       }
       ≡ planOf m period latest
   unfolding planOf
-  keeps k w = rw (w, ne-eqb (m .kind) 4 k)
+  keeps k w = rw (w, ne-eqb (m .kind) replacement k)
 
 -- The marks of a country, of one past the table, and of lines one at a time.
 pub marks-one : {x : Country} (marks : List ℕ) {n : ℕ} → x ≡ Code n → set marks n 1 ≡ marked x marks
@@ -85,11 +71,11 @@ pub marks-kept : (x : Country) (marks : List ℕ) {next : List ℕ} → next ≡
 marks-kept x marks e h = rw (e, length-marked x marks) h
 
 -- The marks of a notice: those of its lines where it is partial, else none.
-pub marks-partial : {kind : ℕ} {marks : List ℕ} (ls : List Line) → kind ≡ 2 → marks ≡ marksOf noMarks ls
+pub marks-partial : {kind : ℕ} {marks : List ℕ} (ls : List Line) → kind ≡ partial → marks ≡ marksOf noMarks ls
     → marks ≡ marksFor kind ls
 unfolding marksFor
-marks-partial {kind} ls k e = rw (eq-eqb kind 2 k) e
+marks-partial {kind} ls k e = rw (eq-eqb kind partial k) e
 
-pub marks-else : (kind : ℕ) (ls : List Line) → (kind ≡ 2 → ⊥) → noMarks ≡ marksFor kind ls
+pub marks-else : (kind : ℕ) (ls : List Line) → (kind ≡ partial → ⊥) → noMarks ≡ marksFor kind ls
 unfolding marksFor
-marks-else kind ls k = rw (ne-eqb kind 2 k)
+marks-else kind ls k = rw (ne-eqb kind partial k)

@@ -1,4 +1,2 @@
 -- How applying a notice divides its work. No public contract cites these: the rules are those of the crate history.
-pub mod Passes
 pub mod Plans
-pub mod Standing

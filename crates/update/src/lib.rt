@@ -1,80 +1,91 @@
-// Applying a notice to a book (document 01, "Effective days", "The book"): a few passes over the notice and one merge with the
-// old entries, counted first unless there is room in any case, and then written.
+// Applying a notice to a book (document 01, "Effective days", "The book"): the notice is checked, its countries are noted, and the
+// book is merged with its lines, counted first unless there is room in any case.
 ghost use mathlib.Core.Path.{_≡_};
-ghost use mathlib.Core.List.{[], _∷_};
 ghost use mathlib.Core.Bool.{true};
-ghost use Prim.Native.Nat.{_+_, _-_, _*_, _≤_, max};
+ghost use Prim.Native.Nat.{_+_, _*_, _≤_};
+ghost use lib.Dec.{leb};
 ghost use lib.ListN.{length};
-ghost use Rattle.dial_code.specs.Key.{key as keyOf, digitsOfKey};
-ghost use Rattle.book.specs.Layout.{entryAt, entriesFrom, wordsOf};
+ghost use Rattle.dial_code.specs.CountryCode.{countryOfKey};
+ghost use Rattle.rate.specs.Time.{lastReceivedDay};
+ghost use Rattle.notice.specs.NoticeRule.{mostLines, checkNotice};
+ghost use Rattle.notice.specs.declared.Checked.the-variants.{Notice};
+ghost use Rattle.book.specs.Layout.{headerWords, entryWords, mostPeriod, held, bookOf, periodOf, latestOf};
 ghost use Rattle.book.specs.Soundness.{sound};
-ghost use Rattle.history.specs.Effect.{increases};
-ghost use Rattle.history.specs.Applying.{inBook};
-ghost use Rattle.update.specs.Passes.{goesOn, unlistedAs, gapBelow, restFrom, listedGroup, keptOf, restAfter, lineEntries, lineRest};
-ghost use Rattle.update.specs.Standing.{Passed, PassedListed};
-ghost use Rattle.update.specs.Plans.{planOf, effectiveBy, changeBy, closesBy, stored};
-
-mod applying;
-mod countries;
-
-pub use applying::apply;
-use book::Entry;
-use notice::Line;
+ghost use Rattle.history.specs.Applying.{refusedApply, applyAnswer, applied};
+ghost use Rattle.effect.specs.Lines.{foundIn, latestBy};
+ghost use Rattle.merge.specs.Lines.{linesAt};
+ghost use Rattle.merge.specs.Merge.{mergedBy};
+ghost use Rattle.update.specs.Plans.{planOf, marked, marksOf, marksFor};
+use book::Header;
+use dial_code::Country;
+use effect::Plan;
+use history::Applied;
+use merge::Merged;
+use notice::Checked;
+use notice::LineRead;
 use notice::Summary;
-use rate::Offer;
 
-// What a notice asks of every line and of the codes that it does not list: `noticed` where every line waits for the floor, and
-// the day on which unlisted codes close.
-pub struct Plan {
-    pub kind: u64,
-    pub country: u64,
-    pub received: u64,
-    pub floor: u64,
-    pub noticed: bool,
-    pub closing: u64,
-}
-
-// Whether a notice closes the codes with keys from `low` on and below `high` that it does not list: all of them, or none.
-pub struct Alike {
-    pub low: u64,
-    pub high: u64,
-    pub closed: bool,
-}
-
-// Where a merge stands: the place of the next old entry, how many are left, and how many entries the new book has so far.
-pub struct Place {
-    pub at: usize,
-    pub left: usize,
-    pub count: usize,
-}
-
-// The same after the entries of a listed code, with the code's status so far.
-pub struct Kept {
-    pub at: usize,
-    pub left: usize,
-    pub count: usize,
-    pub status: u64,
-}
-
-fn larger(a: u64, b: u64) -> u64
-    ensures { λ r. ⌜ r ≡ max a b ⌝ }
+// Applies a notice to an old book and writes the new one: 20 and 21 for the old book, 20 for the new, the notice's own refusals,
+// 10, 30. A refused apply changes no word.
+pub fn apply(old: &[u64], notice: &[u8], new: &mut [u64]) -> Applied
+    ensures { λ r. ⌜ r ≡ applyAnswer (now (old .entry)) (now (notice .entry)) (length (now (new .entry))) ⌝ }
+    ensures { λ _. ⌜ now (new .exit) ≡ applied (now (old .entry)) (now (notice .entry)) (now (new .entry)) ⌝ }
 {
-    if a < b { b } else { a }
+    let unusable = book::book_refusal(old);
+    if unusable != 0 {
+        return refused(unusable);
+    }
+    if new.len() < book::HEADER_WORDS {
+        return refused(refusal::BOOK_TOO_SHORT);
+    }
+    match notice::check_notice(notice) {
+        Checked::Refused(e) => refused(e),
+        Checked::Notice(m) => apply_checked(old, notice, m, new),
+    }
 }
 
-// The day that a last field lists, 0 where it lists none.
-fn listed_day(listed: u64) -> u64
-    ensures { λ r. ⌜ r ≡ listed - 1 ⌝ }
+fn refused(e: u64) -> Applied
+    ensures { λ r. ⌜ r ≡ refusedApply e ⌝ }
 {
-    if listed == 0 { 0 } else { listed - 1 }
+    Applied {
+        refusal: e,
+        entries: 0,
+        received: 0,
+        latest: 0,
+    }
 }
 
+// Applies a notice that has been checked. Nothing is written until nothing can be refused.
+fn apply_checked(old: &[u64], notice: &[u8], m: Summary, new: &mut [u64]) -> Applied
+    requires { ⌜ (sound (now old) ≡ true) × (headerWords ≤ length (now new)) × (checkNotice (now notice) ≡ Notice m) ⌝ }
+    ensures { λ r. ⌜ r ≡ applyAnswer (now (old .entry)) (now (notice .entry)) (length (now (new .entry))) ⌝ }
+    ensures { λ _. ⌜ now (new .exit) ≡ applied (now (old .entry)) (now (notice .entry)) (now (new .entry)) ⌝ }
+{
+    let header = book::header_of(old);
+    if m.received < header.received {
+        return refused(refusal::RECEIVED_EARLIER);
+    }
+    let plan = plan_of(m, header.period, header.latest);
+    let marks = marks_for(notice, m);
+    if !has_room(old, notice, m, plan, &marks, new) {
+        return refused(refusal::BOOK_FULL);
+    }
+    let done = fill(old, notice, m, plan, &marks, new);
+    Applied {
+        refusal: 0,
+        entries: done.count as u64,
+        received: m.received,
+        latest: done.latest,
+    }
+}
+
+// What a notice asks of every line and of the codes that it does not list.
 fn plan_of(m: Summary, period: u64, latest: u64) -> Plan
-    requires { ⌜ (m .received ≤ 60000) × (period ≤ 365) ⌝ }
+    requires { ⌜ (m .received ≤ lastReceivedDay) × (period ≤ mostPeriod) ⌝ }
     ensures { λ r. ⌜ r ≡ planOf m period latest ⌝ }
 {
     let floor = m.received + period;
-    let wanted = larger(m.received, m.earliest);
+    let wanted = effect::later(m.received, m.earliest);
     if m.kind == notice::REPLACEMENT {
         return Plan {
             kind: m.kind,
@@ -82,7 +93,7 @@ fn plan_of(m: Summary, period: u64, latest: u64) -> Plan
             received: m.received,
             floor,
             noticed: true,
-            closing: larger(wanted, floor),
+            closing: effect::later(wanted, floor),
         };
     }
     Plan {
@@ -95,283 +106,101 @@ fn plan_of(m: Summary, period: u64, latest: u64) -> Plan
     }
 }
 
-// Whether an offer is an increase for a code on a day, against the book before the notice.
-fn is_increase(old: &[u64], key: u64, day: u64, offer: Offer) -> bool
-    requires { ⌜ (sound (now old) ≡ true) × (keyOf (digitsOfKey key) ≡ key) ⌝ }
-    ensures { λ r. ⌜ r ≡ increases (inBook (now (old .entry))) key day offer ⌝ }
+// Marks the country of a key.
+fn mark(marks: &mut [u8; 1000], key: u64)
+    requires { ⌜ length (now marks) ≤ 1000 ⌝ }
+    ensures { λ _. ⌜ now (marks .exit) ≡ marked (countryOfKey key) (now (marks .entry)) ⌝ }
 {
-    match offer {
-        Offer::Closed => true,
-        Offer::Blocked => true,
-        Offer::Open {
-            rate,
-            first: _,
-            next: _,
-        } => {
-            let answer = lookup::best_offer(old, key, day);
-            let before = answer.offer;
-            match before {
-                Offer::Closed => false,
-                Offer::Blocked => false,
-                Offer::Open {
-                    rate: standing,
-                    first: _,
-                    next: _,
-                } => standing.0 < rate.0,
+    if let Country::Code(country) = dial_code::country_of_key(key) {
+        if country < 1000 {
+            let at = country as usize;
+            marks[at] = 1;
+        }
+    }
+}
+
+// Marks the countries of so many lines.
+fn mark_lines(notice: &[u8], start: usize, lines: u64, marks: &mut [u8; 1000])
+    requires { ⌜ length (now marks) ≤ 1000 ⌝ }
+    ensures { λ _. ⌜ now (marks .exit) ≡ marksOf (now (marks .entry)) (linesAt lines (now (notice .entry)) start) ⌝ }
+{
+    let mut at = start;
+    let mut left = lines;
+    while 0 < left {
+        match notice::line_at(notice, at) {
+            LineRead::Refused(_) => {
+                return;
+            }
+            LineRead::Read(line, end) => {
+                mark(marks, line.key);
+                at = end;
+                left -= 1;
             }
         }
     }
 }
 
-// The effective day of a line.
-fn effective_day(old: &[u64], plan: Plan, line: Line) -> u64
-    requires { ⌜ (sound (now old) ≡ true) × (keyOf (digitsOfKey (line .key)) ≡ line .key) ⌝ }
-    ensures { λ r. ⌜ r ≡ effectiveBy plan (inBook (now (old .entry))) line ⌝ }
+// For a partial notice the countries named are first noted in a table of 1,000 marks, one for each value from 0 to 999.
+fn marks_for(notice: &[u8], m: Summary) -> [u8; 1000]
+    ensures { λ r. ⌜ r ≡ marksFor (m .kind) (linesAt (m .lines) (now (notice .entry)) (m .start)) ⌝ }
 {
-    let wanted = larger(plan.received, listed_day(line.listed));
-    if plan.noticed {
-        return larger(wanted, plan.floor);
+    let mut marks = [0u8; 1000];
+    if m.kind == notice::PARTIAL {
+        mark_lines(notice, m.start, m.lines, &mut marks);
     }
-    let offer = line.offer;
-    if is_increase(old, line.key, wanted, offer) {
-        return larger(wanted, plan.floor);
-    }
-    wanted
+    marks
 }
 
-// A line's change of its code: key, effective day, offer word.
-fn change_of(old: &[u64], plan: Plan, line: Line) -> Entry
-    requires { ⌜ (sound (now old) ≡ true) × (keyOf (digitsOfKey (line .key)) ≡ line .key) ⌝ }
-    ensures { λ r. ⌜ r ≡ changeBy plan (inBook (now (old .entry))) line ⌝ }
-{
-    let day = effective_day(old, plan, line);
-    let offer = line.offer;
-    Entry {
-        key: line.key,
-        day,
-        offer: rate::offer_word(offer),
-    }
-}
-
-fn entry_at(words: &[u64], at: usize) -> Entry
-    requires { ⌜ at + 3 ≤ length (now words) ⌝ }
-    ensures { λ r. ⌜ r ≡ entryAt (now (words .entry)) at ⌝ }
-{
-    Entry {
-        key: words[at],
-        day: words[at + 1],
-        offer: words[at + 2],
-    }
-}
-
-// Writes an entry at its place in the new book.
-fn write_entry(new: &mut [u64], count: usize, e: Entry)
-    requires { ⌜ 4 + (count + 1) * 3 ≤ length (now new) ⌝ }
-    ensures { λ _. ⌜ now (new .exit) ≡ stored true (now (new .entry)) (4 + count * 3) (wordsOf (e ∷ [])) ⌝ }
-{
-    let at = book::HEADER_WORDS + count * book::ENTRY_WORDS;
-    new[at] = e.key;
-    new[at + 1] = e.day;
-    new[at + 2] = e.offer;
-}
-
-// Puts an entry into the new book, or only counts it.
-fn put(new: &mut [u64], count: usize, e: Entry, write: bool)
-    requires { ⌜ (write ≡ true → 4 + (count + 1) * 3 ≤ length (now new)) ⌝ }
-    ensures { λ _. ⌜ now (new .exit) ≡ stored write (now (new .entry)) (4 + count * 3) (wordsOf (e ∷ [])) ⌝ }
-{
-    if write {
-        write_entry(new, count, e);
-    }
-}
-
-// Whether the entry after one is of the same code and before a day.
-fn goes_on(old: &[u64], at: usize, left: usize, e: Entry, day: u64) -> bool
-    requires { ⌜ at + left * 3 ≤ length (now old) ⌝ }
-    ensures { λ r. ⌜ r ≡ goesOn day e (entriesFrom (now (old .entry)) at left) ⌝ }
-{
-    if left == 0 {
-        return false;
-    }
-    let f = entry_at(old, at);
-    if e.key != f.key {
-        return false;
-    }
-    f.day < day
-}
-
-// Puts what stays of an entry whose code the notice does not list; `at` and `left` are the place and number of the entries after
-// it. Answers how many entries the new book then has.
-fn put_unlisted(
+// Whether the new book can hold the merged entries. They are at most two for each old entry and one for each line, and are only
+// counted where there might be no room for so many.
+fn has_room(
     old: &[u64],
-    at: usize,
-    left: usize,
-    e: Entry,
-    closed: bool,
-    day: u64,
+    notice: &[u8],
+    m: Summary,
+    plan: Plan,
+    marks: &[u8; 1000],
     new: &mut [u64],
-    count: usize,
-    write: bool,
-) -> usize
-    requires { ⌜ (at + left * 3 ≤ length (now old)) × (count ≤ 1000000) ⌝ }
-    requires { ⌜ (write ≡ true → 4 + (count + length (unlistedAs closed day e (entriesFrom (now old) at left))) * 3 ≤ length
-        (now new)) ⌝ }
-    ensures { λ r. ⌜ r ≡ count + length (unlistedAs closed day e (entriesFrom (now (old .entry)) at left)) ⌝ }
-    ensures { λ _. ⌜ now (new .exit) ≡ stored write (now (new .entry)) (4 + count * 3) (wordsOf (unlistedAs closed day e
-        (entriesFrom (now (old .entry)) at left))) ⌝ }
+) -> bool
+    requires { ⌜ m .lines ≤ mostLines ⌝ }
+    ensures { λ r. ⌜ r ≡ leb (length (mergedBy (now (old .entry)) plan (now (marks .entry)) (linesAt (m .lines) (now (notice
+        .entry)) (m .start)))) (held (length (now (new .entry)))) ⌝ }
+    ensures { λ _. ⌜ now (new .exit) ≡ now (new .entry) ⌝ }
 {
-    if !closed {
-        put(new, count, e, write);
-        return count + 1;
+    let most = book::entries_held(new.len());
+    if (book::headed_count(old) as u64) * 2 + m.lines <= most as u64 {
+        return true;
     }
-    if day <= e.day {
-        return count;
-    }
-    put(new, count, e, write);
-    if e.offer == 0 {
-        return count + 1;
-    }
-    if goes_on(old, at, left, e, day) {
-        return count + 1;
-    }
-    let end = Entry {
-        key: e.key,
-        day,
-        offer: 0,
+    let counted = merge::merge(old, notice, m.start, m.lines, plan, marks, new, false);
+    counted.count <= most
+}
+
+// Writes the new book: entries, zeros, header.
+fn fill(
+    old: &[u64],
+    notice: &[u8],
+    m: Summary,
+    plan: Plan,
+    marks: &[u8; 1000],
+    new: &mut [u64],
+) -> Merged
+    requires { ⌜ (m .lines ≤ mostLines) × (headerWords + length (mergedBy (now old) plan (now marks) (linesAt (m .lines) (now notice) (m
+        .start))) * entryWords ≤ length (now new)) ⌝ }
+    ensures { λ r. ⌜ (r .count ≡ length (mergedBy (now (old .entry)) plan (now (marks .entry)) (linesAt (m .lines) (now (notice
+        .entry)) (m .start)))) × (r .latest ≡ latestBy plan (foundIn (now (old .entry))) (latestOf (now (old .entry))) (linesAt (m
+        .lines) (now (notice .entry)) (m .start))) ⌝ }
+    ensures { λ _. ⌜ now (new .exit) ≡ bookOf (length (now (new .entry))) (periodOf (now (old .entry))) (m .received)
+        (latestBy plan (foundIn (now (old .entry))) (latestOf (now (old .entry))) (linesAt (m .lines) (now (notice .entry)) (m
+        .start))) (mergedBy (now (old .entry)) plan (now (marks .entry)) (linesAt (m .lines) (now (notice .entry)) (m .start))) ⌝ }
+{
+    let done = merge::merge(old, notice, m.start, m.lines, plan, marks, new, true);
+    book::clear(new, book::HEADER_WORDS + done.count * book::ENTRY_WORDS);
+    let before = book::header_of(old);
+    let header = Header {
+        count: done.count as u64,
+        period: before.period,
+        received: m.received,
+        latest: done.latest,
     };
-    put(new, count + 1, end, write);
-    count + 2
-}
-
-// Passes the entries of keys below one, none of which the notice lists. Whether they are closed is worked out once for codes that
-// follow one another and are closed alike.
-fn pass_unlisted(
-    old: &[u64],
-    from: Place,
-    below: u64,
-    plan: Plan,
-    marks: &[u8; 1000],
-    new: &mut [u64],
-    write: bool,
-) -> Place
-    requires { ⌜ (from .at + from .left * 3 ≤ length (now old)) × (from .left ≤ 65535) × (from .count + 2 * from .left ≤
-        300000) ⌝ }
-    requires { ⌜ (write ≡ true → 4 + (from .count + length (gapBelow below (closesBy plan (now marks)) (plan .closing)
-        (entriesFrom (now old) (from .at) (from .left)))) * 3 ≤ length (now new)) ⌝ }
-    ensures { λ r. ⌜ Passed (now (old .entry)) from r (gapBelow below (closesBy plan (now (marks .entry))) (plan .closing)
-        (entriesFrom (now (old .entry)) (from .at) (from .left))) (restFrom below (entriesFrom (now (old .entry)) (from .at)
-        (from .left))) ⌝ }
-    ensures { λ _. ⌜ now (new .exit) ≡ stored write (now (new .entry)) (4 + from .count * 3) (wordsOf (gapBelow below
-        (closesBy plan (now (marks .entry))) (plan .closing) (entriesFrom (now (old .entry)) (from .at) (from .left)))) ⌝ }
-{
-    let mut at = from.at;
-    let mut left = from.left;
-    let mut count = from.count;
-    let day = plan.closing;
-    let mut alike = countries::alike_anyway(plan);
-    while 0 < left {
-        let e = entry_at(old, at);
-        if below <= e.key {
-            return Place { at, left, count };
-        }
-        if !countries::covers(alike, e.key) {
-            alike = countries::alike_with(plan, marks, e.key);
-        }
-        at += book::ENTRY_WORDS;
-        left -= 1;
-        count = put_unlisted(old, at, left, e, alike.closed, day, new, count, write);
-    }
-    Place { at, left, count }
-}
-
-// Keeps the entries of a listed code that stand before its line's effective day.
-fn keep_listed(old: &[u64], from: Place, change: Entry, new: &mut [u64], write: bool) -> Kept
-    requires { ⌜ (from .at + from .left * 3 ≤ length (now old)) × (from .left ≤ 65535) × (from .count + 2 * from .left ≤
-        300000) ⌝ }
-    requires { ⌜ (write ≡ true → 4 + (from .count + length (keptOf change (entriesFrom (now old) (from .at) (from .left)))) *
-        3 ≤ length (now new)) ⌝ }
-    ensures { λ r. ⌜ PassedListed (now (old .entry)) from r change (entriesFrom (now (old .entry)) (from .at) (from .left)) ⌝ }
-    ensures { λ _. ⌜ now (new .exit) ≡ stored write (now (new .entry)) (4 + from .count * 3) (wordsOf (keptOf change
-        (entriesFrom (now (old .entry)) (from .at) (from .left)))) ⌝ }
-{
-    let mut at = from.at;
-    let mut left = from.left;
-    let mut count = from.count;
-    let mut status: u64 = 0;
-    while 0 < left {
-        let e = entry_at(old, at);
-        if e.key != change.key {
-            return Kept {
-                at,
-                left,
-                count,
-                status,
-            };
-        }
-        at += book::ENTRY_WORDS;
-        left -= 1;
-        if e.day < change.day {
-            put(new, count, e, write);
-            count += 1;
-            status = e.offer;
-        }
-    }
-    Kept {
-        at,
-        left,
-        count,
-        status,
-    }
-}
-
-// Passes the entries of a listed code, and puts its line's change after those that stay.
-fn pass_listed(old: &[u64], from: Place, change: Entry, new: &mut [u64], write: bool) -> Place
-    requires { ⌜ (from .at + from .left * 3 ≤ length (now old)) × (from .left ≤ 65535) × (from .count + 2 * from .left ≤
-        300000) ⌝ }
-    requires { ⌜ (write ≡ true → 4 + (from .count + length (listedGroup change 0 (entriesFrom (now old) (from .at) (from
-        .left)))) * 3 ≤ length (now new)) ⌝ }
-    ensures { λ r. ⌜ Passed (now (old .entry)) from r (listedGroup change 0 (entriesFrom (now (old .entry)) (from .at) (from
-        .left))) (restAfter (change .key) (entriesFrom (now (old .entry)) (from .at) (from .left))) ⌝ }
-    ensures { λ _. ⌜ now (new .exit) ≡ stored write (now (new .entry)) (4 + from .count * 3) (wordsOf (listedGroup change 0
-        (entriesFrom (now (old .entry)) (from .at) (from .left)))) ⌝ }
-{
-    let k = keep_listed(old, from, change, new, write);
-    if k.status == change.offer {
-        return Place {
-            at: k.at,
-            left: k.left,
-            count: k.count,
-        };
-    }
-    put(new, k.count, change, write);
-    Place {
-        at: k.at,
-        left: k.left,
-        count: k.count + 1,
-    }
-}
-
-// Passes the entries up to a line's code, and those of the code itself.
-fn pass_line(
-    old: &[u64],
-    from: Place,
-    change: Entry,
-    plan: Plan,
-    marks: &[u8; 1000],
-    new: &mut [u64],
-    write: bool,
-) -> Place
-    requires { ⌜ (from .at + from .left * 3 ≤ length (now old)) × (from .left ≤ 65535) × (from .count + 2 * from .left ≤
-        300000) ⌝ }
-    requires { ⌜ (write ≡ true → 4 + (from .count + length (lineEntries change (closesBy plan (now marks)) (plan .closing)
-        (entriesFrom (now old) (from .at) (from .left)))) * 3 ≤ length (now new)) ⌝ }
-    ensures { λ r. ⌜ Passed (now (old .entry)) from r (lineEntries change (closesBy plan (now (marks .entry))) (plan .closing)
-        (entriesFrom (now (old .entry)) (from .at) (from .left))) (lineRest change (entriesFrom (now (old .entry)) (from .at)
-        (from .left))) ⌝ }
-    ensures { λ _. ⌜ now (new .exit) ≡ stored write (now (new .entry)) (4 + from .count * 3) (wordsOf (lineEntries change
-        (closesBy plan (now (marks .entry))) (plan .closing) (entriesFrom (now (old .entry)) (from .at) (from .left)))) ⌝ }
-{
-    let key = change.key;
-    let to = pass_unlisted(old, from, key, plan, marks, new, write);
-    pass_listed(old, to, change, new, write)
+    book::write_header(new, header);
+    done
 }

@@ -1,12 +1,12 @@
--- `update::goes_on` meets its contract: no entry left, one of another code, one of the same.
+-- `merge::goes_on` meets its contract: no entry left, one of another code, one of the same.
 -- Assumes nothing.
 use mathlib.Core.Path.{sym}
 use borrow.Author.Needs.{needs}
 use Rattle.book.proofs.Rows.{rows-none}
-use Rattle.update.proofs.PassLaws.{next-row, goes-none, goes-apart, goes-along}
+use Rattle.merge.proofs.PassLaws.{next-row, goes-none, goes-apart, goes-along}
 use Rattle.dial_code.proofs.Tests.{positive}
-use Rattle.update.proofs.goes_on.Statement.{statement}
-use Rattle.update.proofs.goes_on.Tie as tie
+use Rattle.merge.proofs.goes_on.Statement.{statement}
+use Rattle.merge.proofs.goes_on.Tie as tie
 
 returns : tie.Need-returns
 returns c = sym (goes-none _ _ (rows-none _ _ _ (c .if1 .taken)))

@@ -1,4 +1,4 @@
--- `update::keep_listed` meets its contract. The loop's invariant: keeping what is left of the code's entries does the whole.
+-- `merge::keep_listed` meets its contract. The loop's invariant: keeping what is left of the code's entries does the whole.
 -- Assumes nothing.
 use mathlib.Core.Path.{_≡_, refl, sym, _∙_}
 use mathlib.Core.List.{[], _∷_}
@@ -6,18 +6,18 @@ use Prim.Native.Nat.{_+_, _-_, _*_, _≤_}
 use native.Mathlib.Omega.{arith}
 use borrow.Author.Needs.{needs}
 use lib.ListN.{length}
-use Rattle.book.specs.Layout.{entriesFrom}
+use Rattle.book.specs.Layout.{headerWords, entryWords, entriesFrom}
 use Rattle.book.proofs.Rows.{rows-none}
-use Rattle.update.specs.Passes.{keptOf, statusOf, restAfter}
-use Rattle.update.proofs.Stores.{Writing, writing-all, writing-same, writing-on}
-use Rattle.update.proofs.Stores.{writing-counted, writing-end, writing-room}
-use Rattle.update.proofs.PassLaws.{next-row, KeptTurn, kept-on, kept-off, kept-stops, kept-none}
-use Rattle.update.proofs.keep_listed.Statement.{statement}
-use Rattle.update.proofs.keep_listed.Tie as tie
+use Rattle.merge.specs.Passes.{keptOf, statusOf, restAfter}
+use Rattle.merge.proofs.Stores.{Writing, writing-all, writing-same, writing-on}
+use Rattle.merge.proofs.Stores.{writing-counted, writing-end}
+use Rattle.merge.proofs.PassLaws.{next-row, KeptTurn, kept-on, kept-off, kept-stops, kept-none}
+use Rattle.merge.proofs.keep_listed.Statement.{statement}
+use Rattle.merge.proofs.keep_listed.Tie as tie
 
 abbrev Inv-loop : tie.InvT-loop
 Inv-loop old change new₀ write at₀ left₀ count₀ status₀ new at left count status =
-    (at + left * 3 ≤ length old) × (left ≤ left₀) × (count + left ≤ count₀ + left₀)
+    (at + left * entryWords ≤ length old + headerWords) × (left ≤ left₀) × (count + left ≤ count₀ + left₀)
     × Writing write new₀ count₀ (keptOf change (entriesFrom old at₀ left₀)) new count (keptOf change (entriesFrom old at left))
     × (statusOf change status (entriesFrom old at left) ≡ statusOf change 0 (entriesFrom old at₀ left₀))
     × (restAfter (change .key) (entriesFrom old at left) ≡ restAfter (change .key) (entriesFrom old at₀ left₀))
@@ -63,20 +63,14 @@ at-kept : (c : tie.Then2 Inv-loop μ-loop) →
     let l = p .before .before .loop in
     let e = p .entry-at .result in
     KeptTurn (a .change) (l .status) (e .offer) (entriesFrom (a .old .now) (l .at) (l .left)) (e ∷ [])
-    (entriesFrom (a .old .now) (l .at + 3) (l .left - 1))
+    (entriesFrom (a .old .now) (l .at + entryWords) (l .left - 1))
 at-kept c =
     let p = c .before .before .before .before .before .before in
     kept-on _ _ _ _ (next-row _ _ _ (p .before .loop-test .taken) (p .entry-at .ensures))
     (c .before .before .before .if1 .left) (c .if2 .taken)
 
 put-requires : tie.Need-put-requires Inv-loop μ-loop
-put-requires c κs =
-    let p = c .before .before .before .before .before .before .before in
-    let a = p .before .before .before .before .before .args in
-    let l = p .before .before .loop in
-    let room = p .before .before .before .before .before .pre .1 in
-    let rest = keptOf (a .change) (entriesFrom (a .old .now) (l .at + 3) (l .left - 1)) in
-    writing-room (l .inv .3) (p .entry-at .result ∷ []) rest (at-kept (c .before) .kept) room
+put-requires c κs = search needs
 
 add-count : tie.Need-add-count Inv-loop μ-loop
 add-count c = search needs

@@ -1,4 +1,4 @@
--- `update::pass_line` meets its contract: one pass after the other.
+-- `merge::pass_line` meets its contract: one pass after the other.
 -- Assumes nothing.
 use mathlib.Core.Path.{ap}
 use mathlib.Core.List.{List}
@@ -7,40 +7,23 @@ use borrow.Author.Needs.{needs}
 use lib.ListN.{length}
 use Rattle.book.specs.Layout.{entriesFrom}
 use Rattle.book.specs.declared.Entry.{Entry}
-use Rattle.update.specs.Passes.{gapBelow, restFrom, listedGroup, lineEntries, lineRest}
-use Rattle.update.specs.Plans.{closesBy}
-use Rattle.update.proofs.Stores.{puts-on}
-use Rattle.update.proofs.PassLaws.{length-line, passed-on, gap-bound}
-use Rattle.update.proofs.pass_line.Statement.{statement}
-use Rattle.update.proofs.pass_line.Tie as tie
+use Rattle.merge.specs.Passes.{gapBelow, restFrom, listedGroup, lineEntries, lineRest}
+use Rattle.effect.specs.Closings.{closesBy}
+use Rattle.merge.proofs.Stores.{puts-on}
+use Rattle.merge.proofs.PassLaws.{length-line, passed-on, gap-bound}
+use Rattle.merge.proofs.pass_line.Statement.{statement}
+use Rattle.merge.proofs.pass_line.Tie as tie
 
 pass-unlisted-requires : tie.Need-pass-unlisted-requires
-pass-unlisted-requires c κs =
-    let p = c .before .before .before in
-    let a = p .args in
-    let es = entriesFrom (a .old .now) (a .from .at) (a .from .left) in
-    let closes = closesBy (a .plan) (a .marks .now) in
-    (p .pre .0, λ w. omega (arith, p .pre .1 w, length-line (a .change) closes (a .plan .closing) es))
+pass-unlisted-requires c κs = search needs
 
 pass-listed-requires : tie.Need-pass-listed-requires
 pass-listed-requires c κs =
     let p = c .before .before .before in
     let a = p .before .before .before .before .args in
-    let es = entriesFrom (a .old .now) (a .from .at) (a .from .left) in
     let u = p .pass-unlisted .ensures .0 in
-    let closes = closesBy (a .plan) (a .marks .now) in
-    let few = gap-bound (a .old .now) (a .from) _ (a .change .key) closes (a .plan .closing) u in (
-      (u .stands, omega (arith, u .fewer), omega (arith, few)),
-      λ w.
-          omega (
-            arith,
-            p .before .before .before .before .pre .1 w,
-            u .counted,
-            length-line (a .change) closes (a .plan .closing) es,
-            ap (λ (es : List Entry). length (listedGroup (a .change) 0 es)) (u .left),
-            p .pass-unlisted .kept .1 .1 .1 .1 .1 .0,
-          ),
-    )
+    let few = gap-bound (a .old .now) (a .from) _ (a .change .key) (closesBy (a .plan) (a .marks .now)) (a .plan .closing) u in
+    (u .stands, omega (arith, few, p .before .before .before .before .pre .1))
 
 same-length : tie.Need-same-length
 same-length c = search needs

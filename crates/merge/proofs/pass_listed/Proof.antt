@@ -1,4 +1,4 @@
--- `update::pass_listed` meets its contract: the entries kept, and the line's change where it is no repetition.
+-- `merge::pass_listed` meets its contract: the entries kept, and the line's change where it is no repetition.
 -- Assumes nothing.
 use mathlib.Core.Path.{_≡_, ap, _∙_}
 use mathlib.Core.List.{[], _∷_, _++_}
@@ -7,18 +7,14 @@ use borrow.Author.Needs.{needs}
 use lib.ListN.{length, length-append}
 use Rattle.book.specs.Layout.{entriesFrom}
 use Rattle.book.proofs.Rows.{length-rows}
-use Rattle.update.specs.Passes.{keptOf, listedGroup}
-use Rattle.update.proofs.Stores.{puts-on}
-use Rattle.update.proofs.PassLaws.{listed-same, listed-new, length-listed, kept-most}
-use Rattle.update.proofs.pass_listed.Statement.{statement}
-use Rattle.update.proofs.pass_listed.Tie as tie
+use Rattle.merge.specs.Passes.{keptOf, listedGroup}
+use Rattle.merge.proofs.Stores.{puts-on}
+use Rattle.merge.proofs.PassLaws.{listed-same, listed-new, length-listed, kept-most}
+use Rattle.merge.proofs.pass_listed.Statement.{statement}
+use Rattle.merge.proofs.pass_listed.Tie as tie
 
 keep-listed-requires : tie.Need-keep-listed-requires
-keep-listed-requires c κs =
-    let p = c .before .before .before in
-    let a = p .args in
-    let es = entriesFrom (a .old .now) (a .from .at) (a .from .left) in
-    (p .pre .0, λ w. omega (arith, p .pre .1 w, length-listed (a .change) 0 es))
+keep-listed-requires c κs = search needs
 
 same-length : tie.Need-same-length
 same-length c = search needs
@@ -45,9 +41,13 @@ put-requires c κs =
     let p = c .before .before .before .before .before .before in
     let a = p .before .before .before .before .args in
     let es = entriesFrom (a .old .now) (a .from .at) (a .from .left) in
-    let more = ap length (at-new (c .before)) ∙ length-append (keptOf (a .change) es) (a .change ∷ []) in
-    let k = p .keep-listed in
-    λ w. omega (arith, p .before .before .before .before .pre .1 w, k .ensures .0 .counted, more, k .kept .1 .1 .1 .0)
+    omega (
+      arith,
+      p .keep-listed .ensures .0 .counted,
+      kept-most (a .change) es,
+      length-rows (a .old .now) (a .from .at) (a .from .left),
+      p .before .before .before .before .pre .1,
+    )
 
 add-t13 : tie.Need-add-t13
 add-t13 c =

@@ -1,40 +1,39 @@
--- `update::pass_unlisted` meets its contract. The loop's invariant: putting what is left of the gap does the whole of it, and codes
+-- `merge::pass_unlisted` meets its contract. The loop's invariant: putting what is left of the gap does the whole of it, and codes
 -- remembered as alike are closed alike. Assumes nothing.
 use mathlib.Core.Path.{_≡_, refl, sym, _∙_}
 use mathlib.Core.Logic.{⊎-elim}
-use mathlib.Core.Bool.{and-eq-true-iff}
 use mathlib.Core.List.{_++_}
 use Prim.Native.Nat.{_+_, _-_, _*_, _≤_}
 use native.Mathlib.Omega.{arith}
 use borrow.Author.Needs.{needs}
-use borrow.Author.Tests.{leb-true, ltb-true, not-false}
+use borrow.Author.Tests.{not-false}
 use lib.ListN.{length}
-use Rattle.book.specs.Layout.{entriesFrom}
+use Rattle.book.specs.Layout.{headerWords, entryWords, entriesFrom}
 use Rattle.book.proofs.Rows.{rows-none}
-use Rattle.update.specs.Passes.{gapBelow, restFrom, unlistedAs}
-use Rattle.update.specs.Plans.{closesBy}
-use Rattle.update.specs.Standing.{AlikeIn}
-use Rattle.update.proofs.Stores.{Writing, writing-all, writing-on, writing-counted, writing-end, writing-room}
-use Rattle.update.proofs.PassLaws.{next-row, gap-on, gap-stops, gap-none, rest-on, rest-stops, rest-none, at-most-two}
-use Rattle.update.proofs.pass_unlisted.Statement.{statement}
-use Rattle.update.proofs.pass_unlisted.Tie as tie
+use Rattle.merge.specs.Passes.{gapBelow, restFrom, unlistedAs}
+use Rattle.effect.specs.Closings.{closesBy}
+use Rattle.effect.proofs.ClosingLaws.{ClosedAlike, anyway-alike, range-alike, range-closed}
+use Rattle.merge.proofs.Stores.{Writing, writing-all, writing-on, writing-counted, writing-end}
+use Rattle.merge.proofs.PassLaws.{next-row, gap-on, gap-stops, gap-none, rest-on, rest-stops, rest-none, at-most-two}
+use Rattle.merge.proofs.pass_unlisted.Statement.{statement}
+use Rattle.merge.proofs.pass_unlisted.Tie as tie
 
 abbrev Inv-loop : tie.InvT-loop
 Inv-loop old below plan marks new₀ write at₀ left₀ count₀ day alike₀ new at left count alike =
-    (at + left * 3 ≤ length old) × (left ≤ left₀) × (count + 2 * left ≤ count₀ + 2 * left₀)
+    (at + left * entryWords ≤ length old + headerWords) × (left ≤ left₀) × (count + 2 * left ≤ count₀ + 2 * left₀)
     × Writing write new₀ count₀ (gapBelow below (closesBy plan marks) (plan .closing) (entriesFrom old at₀ left₀)) new count
     (gapBelow below (closesBy plan marks) (plan .closing) (entriesFrom old at left))
     × (restFrom below (entriesFrom old at left) ≡ restFrom below (entriesFrom old at₀ left₀))
-    × AlikeIn plan marks alike
+    × ClosedAlike plan marks alike
 
 abbrev μ-loop : tie.MeasureT-loop
 μ-loop old below plan marks new₀ write at₀ left₀ count₀ day alike₀ new at left count alike = left
 
 loop-holds : tie.Need-loop-holds Inv-loop μ-loop
-loop-holds c = (omega arith, omega arith, omega arith, writing-all _ _ _ _, refl, c .alike-anyway .ensures _)
+loop-holds c = (omega arith, omega arith, omega arith, writing-all _ _ _ _, refl, rw (c .closed-anyway .ensures) (anyway-alike _ _))
 
-alike-anyway-requires : tie.Need-alike-anyway-requires Inv-loop μ-loop
-alike-anyway-requires c κs = search needs
+closed-anyway-requires : tie.Need-closed-anyway-requires Inv-loop μ-loop
+closed-anyway-requires c κs = search needs
 
 entry-at-requires : tie.Need-entry-at-requires Inv-loop μ-loop
 entry-at-requires c κs = search needs
@@ -58,11 +57,11 @@ returns c =
       writing-end (l .inv .3) none,
     )
 
-covers-requires : tie.Need-covers-requires Inv-loop μ-loop
-covers-requires c κs = search needs
+is-within-requires : tie.Need-is-within-requires Inv-loop μ-loop
+is-within-requires c κs = search needs
 
-alike-with-requires : tie.Need-alike-with-requires Inv-loop μ-loop
-alike-with-requires c κs = search needs
+closed-range-requires : tie.Need-closed-range-requires Inv-loop μ-loop
+closed-range-requires c κs = search needs
 
 add-at : tie.Need-add-at Inv-loop μ-loop
 add-at c = search needs
@@ -72,44 +71,36 @@ sub-left c = search needs
 
 -- what is remembered of codes closed alike, and whether the entry's is closed
 is-known : (c : tie.Joined2 Inv-loop μ-loop) →
-    let p = c .before .before .before .before in
+    let p = c .before .before .before .before .before in
     let a = p .before .before .before .before .before .before .args in
-    AlikeIn (a .plan) (a .marks .now) (c .if2 .alike)
+    ClosedAlike (a .plan) (a .marks .now) (c .if2 .alike)
     × (c .if2 .alike .closed ≡ closesBy (a .plan) (a .marks .now) (p .entry-at .result .key))
 is-known c =
-    let l = c .before .before .before .before .before .before .loop in
-    ⊎-elim (λ v. rw (v .2) (v .1 .ensures .1, v .1 .ensures .0))
-    (λ v.
-    let t = and-eq-true-iff _ _ .0 (sym (c .before .covers .ensures) ∙ not-false _ (v .0 .left)) in
-    rw (v .1) (l .inv .5, l .inv .5 _ (leb-true _ _ (t .0)) (ltb-true _ _ (t .1))))
+    let p = c .before .before .before .before .before in
+    let a = p .before .before .before .before .before .before .args in
+    let l = p .before .before .loop in
+    ⊎-elim (λ v. rw (v .2 ∙ v .1 .ensures) (range-alike (a .plan) (a .marks .now) _, range-closed (a .plan) (a .marks .now) _))
+    (λ v. rw (v .1) (l .inv .5, l .inv .5 _ (sym (c .before .is-within .ensures) ∙ not-false _ (v .0 .left))))
     (c .if2 .came)
 
 at-entry : (c : tie.Joined2 Inv-loop μ-loop) →
-    let p = c .before .before .before .before in
+    let p = c .before .before .before .before .before in
     let a = p .before .before .before .before .before .before .args in
     let l = p .before .before .loop in
     let closes = closesBy (a .plan) (a .marks .now) in
     let day = a .plan .closing in
-    let es = entriesFrom (a .old .now) (l .at + 3) (l .left - 1) in
+    let es = entriesFrom (a .old .now) (l .at + entryWords) (l .left - 1) in
     gapBelow (a .below) closes day (entriesFrom (a .old .now) (l .at) (l .left))
     ≡ unlistedAs (c .if2 .alike .closed) day (p .entry-at .result) es ++ gapBelow (a .below) closes day es
 at-entry c =
-    let p = c .before .before .before .before in
+    let p = c .before .before .before .before .before in
     let a = p .before .before .before .before .before .before .args in
     let q = next-row _ _ _ (p .before .loop-test .taken) (p .entry-at .ensures) in
-    gap-on (a .below) (closesBy (a .plan) (a .marks .now)) (a .plan .closing) _ _ q (c .before .before .if1 .left)
+    gap-on (a .below) (closesBy (a .plan) (a .marks .now)) (a .plan .closing) _ _ q (c .before .before .before .if1 .left)
     (is-known c .1)
 
 put-unlisted-requires : tie.Need-put-unlisted-requires Inv-loop μ-loop
-put-unlisted-requires c κs =
-    let p = c .before .before .before .before .before in
-    let a = p .before .before .before .before .before .before .args in
-    let l = p .before .before .loop in
-    let es = entriesFrom (a .old .now) (l .at + 3) (l .left - 1) in
-    let put = unlistedAs (c .before .if2 .alike .closed) (a .plan .closing) (p .entry-at .result) es in
-    let room = p .before .before .before .before .before .before .pre .1 in
-    let rest = gapBelow (a .below) (closesBy (a .plan) (a .marks .now)) (a .plan .closing) es in
-    ((omega arith, omega arith), writing-room (l .inv .3) put rest (at-entry (c .before)) room)
+put-unlisted-requires c κs = omega (arith, c .before .before .before .before .before .before .before .before .loop .inv .2)
 
 loop-less : tie.Need-loop-less Inv-loop μ-loop
 loop-less c = search needs
@@ -117,17 +108,17 @@ loop-less c = search needs
 loop-again : tie.Need-loop-again Inv-loop μ-loop
 loop-again c =
     let j = c .before .before .before .before in
-    let p = j .before .before .before .before in
+    let p = j .before .before .before .before .before in
     let a = p .before .before .before .before .before .before .args in
     let l = p .before .before .loop in
     let q = next-row (a .old .now) (l .at) (l .left) (p .before .loop-test .taken) (p .entry-at .ensures) in
-    let es = entriesFrom (a .old .now) (l .at + 3) (l .left - 1) in
+    let es = entriesFrom (a .old .now) (l .at + entryWords) (l .left - 1) in
     let put = c .before .before .put-unlisted .ensures in (
       omega arith,
       omega arith,
       omega (arith, put .0, at-most-two (a .plan .closing) (p .entry-at .result) es (j .if2 .alike .closed)),
       writing-on (l .inv .3) _ _ _ (at-entry j) (put .0) (put .1),
-      sym (rest-on (a .below) _ _ q (j .before .before .if1 .left)) ∙ l .inv .4,
+      sym (rest-on (a .below) _ _ q (j .before .before .before .if1 .left)) ∙ l .inv .4,
       is-known j .0,
     )
 
@@ -155,13 +146,13 @@ pass-unlisted-spec =
     (tie.spec
     Inv-loop
     μ-loop
-    alike-anyway-requires
+    closed-anyway-requires
     loop-holds
     entry-at-requires
     same-length
     returns
-    covers-requires
-    alike-with-requires
+    is-within-requires
+    closed-range-requires
     add-at
     sub-left
     put-unlisted-requires

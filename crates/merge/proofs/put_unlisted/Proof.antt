@@ -1,4 +1,4 @@
--- `update::put_unlisted` meets its contract: which entries stay is known at each return.
+-- `merge::put_unlisted` meets its contract: which entries stay is known at each return.
 -- Assumes nothing.
 use mathlib.Core.Path.{_≡_, refl, ap, sym, _∙_}
 use mathlib.Core.List.{[], _∷_}
@@ -7,20 +7,15 @@ use native.Mathlib.Omega.{arith}
 use borrow.Author.Needs.{needs}
 use borrow.Author.Tests.{not-true, not-false}
 use lib.ListN.{length}
-use Rattle.book.specs.Layout.{entry, entriesFrom}
-use Rattle.update.specs.Passes.{unlistedAs}
-use Rattle.update.proofs.Stores.{stored-nil, no-words, puts-on}
-use Rattle.update.proofs.PassLaws.{stays, goes, stays-closed, stays-on, closes-after, at-least-one}
-use Rattle.update.proofs.put_unlisted.Statement.{statement}
-use Rattle.update.proofs.put_unlisted.Tie as tie
+use Rattle.book.specs.Layout.{headerWords, entryWords, entry, entriesFrom}
+use Rattle.merge.specs.Passes.{unlistedAs}
+use Rattle.merge.proofs.Stores.{stored-nil, no-words, puts-on}
+use Rattle.merge.proofs.PassLaws.{stays, goes, stays-closed, stays-on, closes-after}
+use Rattle.merge.proofs.put_unlisted.Statement.{statement}
+use Rattle.merge.proofs.put_unlisted.Tie as tie
 
 put-requires : tie.Need-put-requires
-put-requires c κs =
-    let p = c .before .before .before .before in
-    let a = p .args in
-    let es = entriesFrom (a .old .now) (a .at) (a .left) in
-    let stay = stays (a .day) (a .e) es (not-true (a .closed) (c .before .if1 .taken)) in
-    λ w. omega (arith, p .pre .1 w, ap length stay)
+put-requires c κs = search needs
 
 add-result : tie.Need-add-result
 add-result c = search needs
@@ -41,14 +36,10 @@ returns-2 c =
     let a = p .before .before .before .args in
     let es = entriesFrom (a .old .now) (a .at) (a .left) in
     rw (goes (a .day) (a .e) es (not-false _ (p .if1 .left)) (c .if2 .taken), no-words)
-    (omega arith, sym (stored-nil (a .write) (a .new .now) (4 + a .count * 3)))
+    (omega arith, sym (stored-nil (a .write) (a .new .now) (headerWords + a .count * entryWords)))
 
 put-requires-2 : tie.Need-put-requires-2
-put-requires-2 c κs =
-    let p = c .before .before .before .before .before .before in
-    let a = p .args in
-    let es = entriesFrom (a .old .now) (a .at) (a .left) in
-    λ w. omega (arith, p .pre .1 w, at-least-one (a .day) (a .e) es (a .closed) (c .before .if2 .left))
+put-requires-2 c κs = search needs
 
 add-result-2 : tie.Need-add-result-2
 add-result-2 c = search needs
@@ -95,10 +86,7 @@ both-put c =
     (sym (c .before .goes-on .ensures) ∙ c .if4 .left)
 
 put-requires-3 : tie.Need-put-requires-3
-put-requires-3 c κs =
-    let p = c .before .before .before .before .before .before .before in
-    let s = p .before .before .before .before .before .before .before in
-    λ w. omega (arith, s .pre .1 w, ap length (both-put (c .before)), p .put2 .kept .0)
+put-requires-3 c κs = search needs
 
 add-result-4 : tie.Need-add-result-4
 add-result-4 c = search needs

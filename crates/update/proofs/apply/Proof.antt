@@ -1,12 +1,12 @@
--- `update::applying::apply` meets its contract: 20 and 21 for the old book, 20 for the new, the notice's own refusals, and what
+-- `update::apply` meets its contract: 20 and 21 for the old book, 20 for the new, the notice's own refusals, and what
 -- a checked notice comes to. Assumes nothing.
 use mathlib.Core.Path.{sym, _∙_}
 use native.Mathlib.Omega.{arith}
 use borrow.Author.Needs.{needs}
 use Rattle.book.proofs.Usable.{usable-sound}
 use Rattle.update.proofs.Answering.{refuses, no-old, no-new, refuses-notice}
-use Rattle.update.proofs.applying.apply.Statement.{statement}
-use Rattle.update.proofs.applying.apply.Tie as tie
+use Rattle.update.proofs.apply.Statement.{statement}
+use Rattle.update.proofs.apply.Tie as tie
 
 -- a checked notice comes to. Assumes nothing.
 

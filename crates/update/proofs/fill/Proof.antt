@@ -1,27 +1,37 @@
--- `update::applying::fill` meets its contract: entries, zeros and header come to the new book. Assumes nothing.
-use mathlib.Core.Path.{_≡_, _∙_}
-use Prim.Native.Nat.{_+_, _*_, _≤_}
+-- `update::fill` meets its contract: entries, zeros and header come to the new book. Assumes nothing.
+use mathlib.Core.Path.{_≡_, ap, _∙_}
+use Prim.Native.Nat.{ℕ, _+_, _*_, _≤_}
 use native.Mathlib.Omega.{arith}
 use borrow.Author.Needs.{needs}
-use lib.ListN.{length, length-set}
-use Rattle.book.proofs.Headers.{sound-book}
-use Rattle.update.proofs.NewBook.{book-made}
-use Rattle.update.proofs.applying.fill.Statement.{statement}
-use Rattle.update.proofs.applying.fill.Tie as tie
+use lib.ListN.{length}
+use Rattle.book.specs.Layout.{headerWords, entryWords, header, latestOf}
+use Rattle.book.specs.declared.Header.{Header}
+use Rattle.book.proofs.NewBook.{book-made}
+use Rattle.effect.specs.Lines.{foundIn, latestBy}
+use Rattle.merge.specs.Lines.{linesAt}
+use Rattle.merge.specs.Merge.{mergedBy}
+use Rattle.merge.proofs.Merging.{answered, written-all}
+use Rattle.update.proofs.fill.Statement.{statement}
+use Rattle.update.proofs.fill.Tie as tie
 
--- the new book keeps its length
-same : (c : tie.After-clear) →
-    let d = c .before .before .before .before .before in
-    length (c .clear .last .0) ≡ length (d .before .before .before .before .before .args .new .now)
-same c = c .clear .kept .0 ∙ c .before .before .before .before .before .merge .kept .1 .1 .1 .1 .1 .0
+-- the entries and the latest day
+merged : (c : tie.After-merge) →
+    let a = c .before .before .before .before .before .args in
+    let ls = linesAt (a .m .lines) (a .notice .now) (a .m .start) in
+    (c .merge .result .count ≡ length (mergedBy (a .old .now) (a .plan) (a .marks .now) ls))
+    × (c .merge .result .latest ≡ latestBy (a .plan) (foundIn (a .old .now)) (latestOf (a .old .now)) ls)
+merged c =
+    let s = c .before .before .before .before .before in
+    let a = s .args in
+    answered (a .old .now) (a .plan) (a .marks .now) (a .notice .now) (a .m .start) (a .m .lines) (s .pre .0) (c .merge .ensures .0)
 
 -- the entries have room
 room : (c : tie.After-merge) →
-    4 + c .merge .result .count * 3 ≤ length (c .before .before .before .before .before .args .new .now)
-room c = omega (arith, c .merge .ensures .0 .0, c .before .before .before .before .before .pre .1)
+    headerWords + c .merge .result .count * entryWords ≤ length (c .before .before .before .before .before .args .new .now)
+room c = omega (arith, merged c .0, c .before .before .before .before .before .pre .1)
 
 merge-requires : tie.Need-merge-requires
-merge-requires c κs = (c .before .before .before .before .pre .0, λ w. c .before .before .before .before .pre .1)
+merge-requires c κs = search needs
 
 mul-clear : tie.Need-mul-clear
 mul-clear c =
@@ -36,39 +46,29 @@ add-clear c =
 clear-requires : tie.Need-clear-requires
 clear-requires c κs = search needs
 
-slice-write-new : tie.Need-slice-write-new
-slice-write-new c = omega (arith, room (c .before .before .before .before .before .before .before), same (c .before .before))
+header-of-requires : tie.Need-header-of-requires
+header-of-requires c κs = search needs
 
-shared-slice-read-new : tie.Need-shared-slice-read-new
-shared-slice-read-new c =
-    let d = c .before .before .before .before .before .before .before .before in
-    omega (arith, sound-book _ (d .before .before .before .before .before .pre .0 .0) .four)
-
-slice-write-new-2 : tie.Need-slice-write-new-2
-slice-write-new-2 c =
-    let d = c .before .before .before in
-    simp length-set (omega (arith, room (d .before .before .before .before .before), same d))
-
-slice-write-new-3 : tie.Need-slice-write-new-3
-slice-write-new-3 c =
-    let d = c .before .before .before in
-    simp length-set (omega (arith, room (d .before .before .before .before .before), same d))
-
-slice-write-new-4 : tie.Need-slice-write-new-4
-slice-write-new-4 c =
-    let d = c .before .before .before in
-    simp length-set (omega (arith, room (d .before .before .before .before .before), same d))
+write-header-requires : tie.Need-write-header-requires
+write-header-requires c κs = search needs
 
 same-length : tie.Need-same-length
-same-length c = simp length-set (same (c .before .before .before))
+same-length c = search needs
 
 returns : tie.Need-returns
 returns c =
-    let d = c .before .before .before .before .before .before .before .before in
-    let m = d .merge .ensures in (
-      m .0,
-      book-made _ _ _ _ _ (d .before .before .before .before .before .pre .1) (m .0 .0) (m .0 .1) (m .1)
-          (c .before .before .before .clear .ensures),
+    let d = c .before .before .before .before .before .before .before .before .before .before .before .before in
+    let s = c .before .before .before .before .before .before .before .before .before .before .before .before .before .before .before .before .before in
+    let a = s .args in
+    let ls = linesAt (a .m .lines) (a .notice .now) (a .m .start) in
+    let m = merged d in
+    let h = c .before .before .write-header .ensures in
+    let p : c .before .before .before .before .header-of .result .period ≡ _ = ap (λ (x : Header). x .period) (c .before .before .before .before .header-of .ensures) in (
+      m,
+      book-made (a .new .now) (mergedBy (a .old .now) (a .plan) (a .marks .now) ls) _ _ _ (s .pre .1) (m .0)
+          (written-all (a .old .now) (a .plan) (a .marks .now) (a .notice .now) (a .m .start) (a .m .lines) (s .pre .0) (a .new .now) (d .merge .ensures .1))
+          (c .before .before .before .before .before .before .before .clear .ensures)
+          (rw (p, m .1) at h),
     )
 
 pub fill-spec : {M : Type 1} → statement M
@@ -79,10 +79,7 @@ fill-spec =
     mul-clear
     add-clear
     clear-requires
-    slice-write-new
-    shared-slice-read-new
-    slice-write-new-2
-    slice-write-new-3
-    slice-write-new-4
+    header-of-requires
+    write-header-requires
     same-length
     returns)

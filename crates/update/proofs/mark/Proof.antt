@@ -5,8 +5,8 @@ use borrow.Author.Needs.{needs}
 use Rattle.dial_code.specs.CountryCode.{countryOfKey}
 use Rattle.dial_code.specs.declared.Country.the-variants.{Code}
 use Rattle.update.proofs.Planning.{marks-one, marks-past, marks-none}
-use Rattle.update.proofs.applying.mark.Statement.{statement}
-use Rattle.update.proofs.applying.mark.Tie as tie
+use Rattle.update.proofs.mark.Statement.{statement}
+use Rattle.update.proofs.mark.Tie as tie
 
 -- the country of the key
 in-country : (c : tie.After-country) → countryOfKey (c .before .before .before .args .key) ≡ Code (c .country .given .0 .0)

@@ -1,8 +1,8 @@
 -- `update::marks_for` meets its contract. Assumes nothing.
 use borrow.Author.Needs.{needs}
 use Rattle.update.proofs.Planning.{marks-partial, marks-else}
-use Rattle.update.proofs.applying.marks_for.Statement.{statement}
-use Rattle.update.proofs.applying.marks_for.Tie as tie
+use Rattle.update.proofs.marks_for.Statement.{statement}
+use Rattle.update.proofs.marks_for.Tie as tie
 
 mark-lines-requires : tie.Need-mark-lines-requires
 mark-lines-requires c κs = search needs

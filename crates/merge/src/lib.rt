@@ -1,0 +1,273 @@
+// The merge of a book's entries with the lines of a notice (document 01, "The book"): what is written, or only counted. Between the
+// lines stand the entries of codes that the notice does not list, and at each line those of the line's code.
+ghost use mathlib.Core.Path.{_≡_};
+ghost use mathlib.Core.List.{[], _∷_};
+ghost use Prim.Native.Nat.{_+_, _*_, _≤_, min};
+ghost use lib.ListN.{length};
+ghost use Rattle.book.specs.Layout.{headerWords, entryWords, entriesFrom, wordsOf};
+ghost use Rattle.effect.specs.Closings.{closesBy};
+ghost use Rattle.merge.specs.Passes.{goesOn, unlistedAs, gapBelow, restFrom, listedGroup, keptOf, restAfter, lineEntries, lineRest};
+ghost use Rattle.merge.specs.Merge.{mostMerged, stored, stands, Passed, PassedListed, mergedAnswer, mergedLeaves};
+use book::Entry;
+use effect::Plan;
+use notice::LineRead;
+
+// What a merge comes to: how many entries, and the latest effective day.
+pub struct Merged {
+    pub count: usize,
+    pub latest: u64,
+}
+
+// Where a merge stands: the place of the next old entry, how many are left, and how many entries the new book has so far.
+struct Place {
+    at: usize,
+    left: usize,
+    count: usize,
+}
+
+// The same after the entries of a listed code, with the code's status so far.
+struct Kept {
+    at: usize,
+    left: usize,
+    count: usize,
+    status: u64,
+}
+
+fn lesser(a: u64, b: u64) -> u64
+    ensures { λ r. ⌜ r ≡ min a b ⌝ }
+{
+    if a < b { a } else { b }
+}
+
+// Puts an entry into the new book after so many, or only counts it.
+fn put(new: &mut [u64], count: usize, e: Entry, write: bool)
+    requires { ⌜ count ≤ mostMerged ⌝ }
+    ensures { λ _. ⌜ now (new .exit) ≡ stored write (now (new .entry)) (headerWords + count * entryWords) (wordsOf (e ∷ [])) ⌝ }
+{
+    if write {
+        book::write_entry(new, book::HEADER_WORDS + count * book::ENTRY_WORDS, e);
+    }
+}
+
+// Whether the entry after one is of the same code and before a day.
+fn goes_on(old: &[u64], at: usize, left: usize, e: Entry, day: u64) -> bool
+    ensures { λ r. ⌜ r ≡ goesOn day e (entriesFrom (now (old .entry)) at left) ⌝ }
+{
+    if left == 0 {
+        return false;
+    }
+    let f = book::entry_at(old, at);
+    if e.key != f.key {
+        return false;
+    }
+    f.day < day
+}
+
+// Puts what stays of an entry whose code the notice does not list; `at` and `left` are the place and number of the entries after
+// it. Answers how many entries the new book then has.
+fn put_unlisted(
+    old: &[u64],
+    at: usize,
+    left: usize,
+    e: Entry,
+    closed: bool,
+    day: u64,
+    new: &mut [u64],
+    count: usize,
+    write: bool,
+) -> usize
+    requires { ⌜ count + 2 ≤ mostMerged ⌝ }
+    ensures { λ r. ⌜ r ≡ count + length (unlistedAs closed day e (entriesFrom (now (old .entry)) at left)) ⌝ }
+    ensures { λ _. ⌜ now (new .exit) ≡ stored write (now (new .entry)) (headerWords + count * entryWords) (wordsOf (unlistedAs closed day e
+        (entriesFrom (now (old .entry)) at left))) ⌝ }
+{
+    if !closed {
+        put(new, count, e, write);
+        return count + 1;
+    }
+    if day <= e.day {
+        return count;
+    }
+    put(new, count, e, write);
+    if e.offer == 0 {
+        return count + 1;
+    }
+    if goes_on(old, at, left, e, day) {
+        return count + 1;
+    }
+    let end = Entry {
+        key: e.key,
+        day,
+        offer: 0,
+    };
+    put(new, count + 1, end, write);
+    count + 2
+}
+
+// Passes the entries of keys below one, none of which the notice lists. Whether they are closed is worked out once for codes that
+// follow one another and are closed alike.
+fn pass_unlisted(
+    old: &[u64],
+    from: Place,
+    below: u64,
+    plan: Plan,
+    marks: &[u8; 1000],
+    new: &mut [u64],
+    write: bool,
+) -> Place
+    requires { ⌜ stands (now old) from ⌝ }
+    ensures { λ r. ⌜ Passed (now (old .entry)) from r (gapBelow below (closesBy plan (now (marks .entry))) (plan .closing)
+        (entriesFrom (now (old .entry)) (from .at) (from .left))) (restFrom below (entriesFrom (now (old .entry)) (from .at)
+        (from .left))) ⌝ }
+    ensures { λ _. ⌜ now (new .exit) ≡ stored write (now (new .entry)) (headerWords + from .count * entryWords) (wordsOf (gapBelow below
+        (closesBy plan (now (marks .entry))) (plan .closing) (entriesFrom (now (old .entry)) (from .at) (from .left)))) ⌝ }
+{
+    let mut at = from.at;
+    let mut left = from.left;
+    let mut count = from.count;
+    let day = plan.closing;
+    let mut alike = effect::closed_anyway(plan);
+    while 0 < left {
+        let e = book::entry_at(old, at);
+        if below <= e.key {
+            return Place { at, left, count };
+        }
+        let keys = alike.keys;
+        if !dial_code::is_within(keys, e.key) {
+            alike = effect::closed_range(plan, marks, e.key);
+        }
+        at += book::ENTRY_WORDS;
+        left -= 1;
+        count = put_unlisted(old, at, left, e, alike.closed, day, new, count, write);
+    }
+    Place { at, left, count }
+}
+
+// Keeps the entries of a listed code that stand before its line's effective day.
+fn keep_listed(old: &[u64], from: Place, change: Entry, new: &mut [u64], write: bool) -> Kept
+    requires { ⌜ stands (now old) from ⌝ }
+    ensures { λ r. ⌜ PassedListed (now (old .entry)) from r change (entriesFrom (now (old .entry)) (from .at) (from .left)) ⌝ }
+    ensures { λ _. ⌜ now (new .exit) ≡ stored write (now (new .entry)) (headerWords + from .count * entryWords) (wordsOf (keptOf change
+        (entriesFrom (now (old .entry)) (from .at) (from .left)))) ⌝ }
+{
+    let mut at = from.at;
+    let mut left = from.left;
+    let mut count = from.count;
+    let mut status: u64 = 0;
+    while 0 < left {
+        let e = book::entry_at(old, at);
+        if e.key != change.key {
+            return Kept {
+                at,
+                left,
+                count,
+                status,
+            };
+        }
+        at += book::ENTRY_WORDS;
+        left -= 1;
+        if e.day < change.day {
+            put(new, count, e, write);
+            count += 1;
+            status = e.offer;
+        }
+    }
+    Kept {
+        at,
+        left,
+        count,
+        status,
+    }
+}
+
+// Passes the entries of a listed code, and puts its line's change after those that stay.
+fn pass_listed(old: &[u64], from: Place, change: Entry, new: &mut [u64], write: bool) -> Place
+    requires { ⌜ stands (now old) from ⌝ }
+    ensures { λ r. ⌜ Passed (now (old .entry)) from r (listedGroup change 0 (entriesFrom (now (old .entry)) (from .at) (from
+        .left))) (restAfter (change .key) (entriesFrom (now (old .entry)) (from .at) (from .left))) ⌝ }
+    ensures { λ _. ⌜ now (new .exit) ≡ stored write (now (new .entry)) (headerWords + from .count * entryWords) (wordsOf (listedGroup change 0
+        (entriesFrom (now (old .entry)) (from .at) (from .left)))) ⌝ }
+{
+    let k = keep_listed(old, from, change, new, write);
+    if k.status == change.offer {
+        return Place {
+            at: k.at,
+            left: k.left,
+            count: k.count,
+        };
+    }
+    put(new, k.count, change, write);
+    Place {
+        at: k.at,
+        left: k.left,
+        count: k.count + 1,
+    }
+}
+
+// Passes the entries up to a line's code, and those of the code itself.
+fn pass_line(
+    old: &[u64],
+    from: Place,
+    change: Entry,
+    plan: Plan,
+    marks: &[u8; 1000],
+    new: &mut [u64],
+    write: bool,
+) -> Place
+    requires { ⌜ stands (now old) from ⌝ }
+    ensures { λ r. ⌜ Passed (now (old .entry)) from r (lineEntries change (closesBy plan (now (marks .entry))) (plan .closing)
+        (entriesFrom (now (old .entry)) (from .at) (from .left))) (lineRest change (entriesFrom (now (old .entry)) (from .at)
+        (from .left))) ⌝ }
+    ensures { λ _. ⌜ now (new .exit) ≡ stored write (now (new .entry)) (headerWords + from .count * entryWords) (wordsOf (lineEntries change
+        (closesBy plan (now (marks .entry))) (plan .closing) (entriesFrom (now (old .entry)) (from .at) (from .left)))) ⌝ }
+{
+    let key = change.key;
+    let to = pass_unlisted(old, from, key, plan, marks, new, write);
+    pass_listed(old, to, change, new, write)
+}
+
+// Merges the entries that a book's header counts with the lines of a notice from a place on, at most so many and up to the first
+// that does not read, and writes them after the new book's header as far as there are words, or only counts them.
+pub fn merge(
+    old: &[u64],
+    notice: &[u8],
+    start: usize,
+    lines: u64,
+    plan: Plan,
+    marks: &[u8; 1000],
+    new: &mut [u64],
+    write: bool,
+) -> Merged
+    ensures { λ r. ⌜ r ≡ mergedAnswer (now (old .entry)) plan (now (marks .entry)) (now (notice .entry)) start lines ⌝ }
+    ensures { λ _. ⌜ now (new .exit) ≡ mergedLeaves write (now (old .entry)) plan (now (marks .entry)) (now (notice .entry)) start lines
+        (now (new .entry)) ⌝ }
+{
+    let mut place = Place {
+        at: book::HEADER_WORDS,
+        left: book::headed_count(old),
+        count: 0,
+    };
+    let header = book::header_of(old);
+    let mut latest = header.latest;
+    let mut at = start;
+    let mut left = lesser(lines, notice::MOST_LINES);
+    while 0 < left {
+        match notice::line_at(notice, at) {
+            LineRead::Refused(_) => {
+                left = 0;
+            }
+            LineRead::Read(line, end) => {
+                let change = effect::change_of(old, plan, line);
+                latest = effect::later(latest, change.day);
+                place = pass_line(old, place, change, plan, marks, new, write);
+                at = end;
+                left -= 1;
+            }
+        }
+    }
+    let to = pass_unlisted(old, place, dial_code::KEYS_END, plan, marks, new, write);
+    Merged {
+        count: to.count,
+        latest,
+    }
+}
