@@ -21,11 +21,11 @@ use Rattle.notice.specs.Layout.{lineFields, encodeLines}
 use Rattle.notice.specs.declared.Line.{Line}
 use Rattle.notice.proofs.LayoutLaws.{line-bytes, lines-nil, lines-append}
 use Rattle.book.specs.Layout.{headerWords, entryWords, mostEntries, countOf, entryAt, entriesFrom, entriesOf}
-use Rattle.book.specs.Soundness.{sound}
+use Rattle.book.specs.Soundness.{headedCount, sound}
 use Rattle.book.specs.Status.{heldOffer}
 use Rattle.book.specs.declared.Entry.{Entry}
 use Rattle.book.proofs.Rows.{of-book, rows-none, rows-step, length-entries}
-use Rattle.book.proofs.Headers.{sound-book}
+use Rattle.book.proofs.Headers.{sound-book, sound-count}
 use Rattle.book.proofs.SoundLists.{entries-sound}
 use Rattle.listing.specs.List.{standingLines}
 use Rattle.listing.specs.Pass.{isReplaced, stands, entryLine, addedBy}
@@ -176,8 +176,10 @@ none-left ws at left day h = ap (λ (es : List Entry). passed es day) (rows-none
 
 -- The whole pass over a sound book gives the rule's lines, few of them and of few bytes.
 module _ (ws : List ℕ) (day : ℕ) (s : sound ws ≡ true) where
-  pub whole : standingLines (entriesOf ws) day ≡ passed (entriesFrom ws headerWords (countOf ws)) day
-  whole = in-one-pass (entriesOf ws) day (entries-sound ws s) ∙ ap (λ (es : List Entry). passed es day) (of-book ws)
+  pub whole : {n : ℕ} → n ≡ headedCount ws → standingLines (entriesOf ws) day ≡ passed (entriesFrom ws headerWords n) day
+  whole e =
+      in-one-pass (entriesOf ws) day (entries-sound ws s)
+      ∙ ap (λ (es : List Entry). passed es day) (of-book ws ∙ ap (entriesFrom ws headerWords) (sym (e ∙ sound-count ws s)))
 
   pub few : (length (standingLines (entriesOf ws) day) ≤ mostEntries)
       × (length (encodeLines (standingLines (entriesOf ws) day)) ≤ mostLine * length (standingLines (entriesOf ws) day))

@@ -7,7 +7,7 @@ ghost use lib.ListN.{length};
 ghost use lib.Seq.{sets};
 ghost use Rattle.rate.specs.Time.{isReceivedDay};
 ghost use Rattle.notice.specs.Layout.{encodeLines};
-ghost use Rattle.book.specs.Layout.{entryWords, entryAt, entriesFrom, entriesOf};
+ghost use Rattle.book.specs.Layout.{entryWords, entriesFrom, entriesOf};
 ghost use Rattle.book.specs.Soundness.{sound};
 ghost use Rattle.listing.specs.List.{standingLines, listOf, listed, listAnswer, listBytes};
 ghost use Rattle.listing.specs.Pass.{stands, entryLine, addedBy};
@@ -36,17 +36,6 @@ fn refused(e: u64) -> Listed
     }
 }
 
-fn entry_at(words: &[u64], at: usize) -> Entry
-    requires { ⌜ at + entryWords ≤ length (now words) ⌝ }
-    ensures { λ r. ⌜ r ≡ entryAt (now (words .entry)) at ⌝ }
-{
-    Entry {
-        key: words[at],
-        day: words[at + 1],
-        offer: words[at + 2],
-    }
-}
-
 // Whether an entry is its code's status on a day, and that is not closed. The `left` entries at `at` are those after it.
 fn is_standing(words: &[u64], at: usize, left: usize, e: Entry, day: u64) -> bool
     requires { ⌜ at + left * entryWords ≤ length (now words) ⌝ }
@@ -61,7 +50,7 @@ fn is_standing(words: &[u64], at: usize, left: usize, e: Entry, day: u64) -> boo
     if left == 0 {
         return true;
     }
-    let next = entry_at(words, at);
+    let next = book::entry_at(words, at);
     if e.key != next.key {
         return true;
     }
@@ -141,9 +130,9 @@ fn count_lines(words: &[u64], day: u64) -> usize
 {
     let mut lines: usize = 0;
     let mut at = book::HEADER_WORDS;
-    let mut left = words[0] as usize;
+    let mut left = book::headed_count(words);
     while 0 < left {
-        let e = entry_at(words, at);
+        let e = book::entry_at(words, at);
         at += book::ENTRY_WORDS;
         left -= 1;
         lines += added_lines(words, at, left, e, day);
@@ -158,9 +147,9 @@ fn lines_size(words: &[u64], day: u64) -> usize
 {
     let mut size: usize = 0;
     let mut at = book::HEADER_WORDS;
-    let mut left = words[0] as usize;
+    let mut left = book::headed_count(words);
     while 0 < left {
-        let e = entry_at(words, at);
+        let e = book::entry_at(words, at);
         at += book::ENTRY_WORDS;
         left -= 1;
         size += added_size(words, at, left, e, day);
@@ -191,9 +180,9 @@ fn write_lines(words: &[u64], day: u64, out: &mut [u8], from: usize) -> usize
 {
     let mut end = from;
     let mut at = book::HEADER_WORDS;
-    let mut left = words[0] as usize;
+    let mut left = book::headed_count(words);
     while 0 < left {
-        let e = entry_at(words, at);
+        let e = book::entry_at(words, at);
         at += book::ENTRY_WORDS;
         left -= 1;
         end = write_at(words, at, left, e, day, out, end);

@@ -19,8 +19,6 @@ use rate::Offer;
 use rating::Batch;
 use rating::Call;
 
-const MOST_ENTRIES: u64 = 65_535;
-
 #[repr(C)]
 pub struct RateBookApplied {
     pub refusal: u64,
@@ -159,8 +157,9 @@ pub extern "C" fn rate_book_words(entries: u64) -> u64
 {
     let header = book::HEADER_WORDS as u64;
     let each = book::ENTRY_WORDS as u64;
-    if MOST_ENTRIES < entries {
-        return header + MOST_ENTRIES * each;
+    let most = book::MOST_ENTRIES as u64;
+    if most < entries {
+        return header + most * each;
     }
     header + entries * each
 }

@@ -8,7 +8,7 @@ use lib.ListN.{length}
 use Rattle.listing.proofs.count_lines.Statement.{statement}
 use Rattle.listing.proofs.count_lines.Tie as tie
 use Rattle.book.specs.Layout.{entryWords, entriesFrom, entriesOf}
-use Rattle.book.proofs.Headers.{sound-book}
+use Rattle.book.proofs.Headers.{sound-book, sound-count}
 use Rattle.listing.specs.List.{standingLines}
 use Rattle.listing.proofs.Passing.{passed}
 use Rattle.listing.proofs.Turns.{count-row, none-left, whole, few}
@@ -35,14 +35,14 @@ at-turn c =
       c .added-lines .ensures,
     )
 
-shared-slice-read-left : tie.Need-shared-slice-read-left Inv-loop μ-loop
-shared-slice-read-left c = omega (arith, sound-book _ (c .before .before .pre) .four)
+headed-count-requires : tie.Need-headed-count-requires Inv-loop μ-loop
+headed-count-requires c κs = search needs
 
 loop-holds : tie.Need-loop-holds Inv-loop μ-loop
 loop-holds c =
     let s = c .before .before .pre in
-    let w = whole (c .before .before .args .words .now) (c .before .before .args .day) s in
-    (sound-book _ s .header .room, omega (arith, ap length w))
+    let w = whole (c .before .before .args .words .now) (c .before .before .args .day) s (c .headed-count .ensures) in
+    (omega (arith, sound-book _ s .header .room, sound-count _ s, c .headed-count .ensures), omega (arith, ap length w))
 
 entry-at-requires : tie.Need-entry-at-requires Inv-loop μ-loop
 entry-at-requires c κs = search needs
@@ -80,7 +80,7 @@ count-lines-spec =
     (tie.spec
     Inv-loop
     μ-loop
-    shared-slice-read-left
+    headed-count-requires
     loop-holds
     entry-at-requires
     add-at

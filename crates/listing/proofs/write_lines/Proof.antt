@@ -10,7 +10,7 @@ use Rattle.listing.proofs.write_lines.Statement.{statement}
 use Rattle.listing.proofs.write_lines.Tie as tie
 use Rattle.notice.specs.Layout.{encodeLines}
 use Rattle.book.specs.Layout.{entryWords, entriesFrom, entriesOf}
-use Rattle.book.proofs.Headers.{sound-book}
+use Rattle.book.proofs.Headers.{sound-book, sound-count}
 use Rattle.listing.specs.List.{standingLines}
 use Rattle.listing.proofs.Passing.{passed}
 use Rattle.listing.proofs.Turns.{length-row, puts, none-left, whole}
@@ -30,15 +30,15 @@ Inv-loop words day out₀ from end₀ at₀ left₀ out end at left =
 abbrev μ-loop : tie.MeasureT-loop
 μ-loop words day out₀ from end₀ at₀ left₀ out end at left = left
 
-shared-slice-read-left : tie.Need-shared-slice-read-left Inv-loop μ-loop
-shared-slice-read-left c = omega (arith, sound-book _ (c .before .before .before .pre .0) .four)
+headed-count-requires : tie.Need-headed-count-requires Inv-loop μ-loop
+headed-count-requires c κs = search needs
 
 loop-holds : tie.Need-loop-holds Inv-loop μ-loop
 loop-holds c =
     let a = c .before .before .before .args in
     let s = c .before .before .before .pre .0 in
-    let w = whole (a .words .now) (a .day) s in (
-      sound-book _ s .header .room,
+    let w = whole (a .words .now) (a .day) s (c .headed-count .ensures) in (
+      omega (arith, sound-book _ s .header .room, sound-count _ s, c .headed-count .ensures),
       refl,
       omega (arith, ap (λ (l : List Line). length (encodeLines l)) w),
       ap (λ (l : List Line). sets (a .out .now) (a .from) (encodeLines l)) (sym w),
@@ -93,7 +93,7 @@ write-lines-spec =
     (tie.spec
     Inv-loop
     μ-loop
-    shared-slice-read-left
+    headed-count-requires
     loop-holds
     entry-at-requires
     add-at
