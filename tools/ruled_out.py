@@ -6,6 +6,10 @@ ruled_out.py writes the page; ruled_out.py --check fails where it is not what th
 import pathlib
 import sys
 
+sys.dont_write_bytecode = True
+
+from must_fail import changes, comment  # noqa: E402
+
 ROOT = pathlib.Path(__file__).resolve().parent.parent
 PAGE = ROOT / "docs" / "RULED_OUT.md"
 HEAD = """# What the promises rule out
@@ -15,28 +19,25 @@ tries each of them and fails if the prover accepts one.
 """
 
 
-def said(edit):
-    """What an edit's comment says, and the file that it changes last."""
-    lines = edit.read_text().splitlines()
-    comment = " ".join(line[2:] for line in lines if line.startswith("# "))
-    changed = [line[len("file: ") :] for line in lines if line.startswith("file: ")][-1]
-    return comment, changed
+def row(edit):
+    """An edit's name, the file and the function or definition that it changes last, and what its comment says."""
+    lines = edit.read_text().split("\n")
+    last = list(changes(lines))[-1]
+    return f"| `{edit.stem}` | `{last.file}` | `{last.item}` | {comment(lines)} |\n"
 
 
 def page():
     parts = [HEAD]
-    for crate in sorted(p.parent for p in ROOT.glob("crates/*/must-fail")):
-        parts.append(f"\n## {crate.name}\n\n| edit | of | what it breaks |\n|---|---|---|\n")
-        for edit in sorted((crate / "must-fail").glob("*.edit")):
-            comment, changed = said(edit)
-            parts.append(f"| `{edit.stem}` | `{changed}` | {comment} |\n")
+    for folder in sorted(ROOT.glob("crates/*/must-fail")):
+        parts.append(f"\n## {folder.parent.name}\n\n| edit | of | in | what it breaks |\n|---|---|---|---|\n")
+        parts += map(row, sorted(folder.glob("*.edit")))
     return "".join(parts)
 
 
 def main():
     if sys.argv[1:] == ["--check"]:
         if not PAGE.exists() or PAGE.read_text() != page():
-            sys.exit("docs/RULED_OUT.md is not what the must-fail edits say: run tests/ruled_out.py")
+            sys.exit("docs/RULED_OUT.md is not what the must-fail edits say: run tools/ruled_out.py")
         count = page().count("\n| `")
         print(f"ruled out: {count} edits listed")
         return

@@ -1,8 +1,9 @@
 #!/usr/bin/env python3
 """Sizes of the crates, and how long each takes to check: the table in docs/PROOFS.md.
 
-sizes.py LOG writes the table, with the times that rt ci printed into LOG; sizes.py keeps the times that stand there;
-sizes.py --check fails where the sizes are not those of the files.
+sizes.py LOG writes the table, with the times that rt ci printed into LOG; sizes.py keeps the times that stand there; both print the
+sum over the crates of edits times check time, which decides how long the gate takes: each edit is a check of its crate. sizes.py
+--check fails where the sizes are not those of the files.
 """
 import pathlib
 import re
@@ -39,11 +40,16 @@ def sizes(crate):
     )
 
 
-def table(seconds):
+def rows(seconds):
     crates = re.findall(r"^(\w+):", (ROOT / "crates.txt").read_text(), re.M)
-    rows = [(f"`{crate}`", *sizes(crate), seconds[crate]) for crate in crates]
-    rows.append(("all", *(sum(column) for column in list(zip(*rows))[1:])))
-    return HEAD + "".join(f"| {row[0]} | " + " | ".join(f"{n:,}" for n in row[1:]) + " |\n" for row in rows)
+    if untimed := [crate for crate in crates if crate not in seconds]:
+        sys.exit(f"no check time of {' '.join(untimed)}: run tools/sizes.py with a log of rt ci")
+    return [(f"`{crate}`", *sizes(crate), seconds[crate]) for crate in crates]
+
+
+def table(made):
+    total = ("all", *(sum(column) for column in list(zip(*made))[1:]))
+    return HEAD + "".join(f"| {row[0]} | " + " | ".join(f"{n:,}" for n in row[1:]) + " |\n" for row in [*made, total])
 
 
 def main():
@@ -51,13 +57,15 @@ def main():
     stands = TABLE.search(page).group(0)
     seconds = {crate: int(n) for crate, n in re.findall(r"^\| `(\w+)` .* (\d+) \|$", stands, re.M)}
     if sys.argv[1:] == ["--check"]:
-        if stands != table(seconds):
-            sys.exit("the sizes in docs/PROOFS.md are not those of the files: run tests/sizes.py")
+        if stands != table(rows(seconds)):
+            sys.exit("the sizes in docs/PROOFS.md are not those of the files: run tools/sizes.py")
         print("sizes: as the files are")
         return
     for log in sys.argv[1:]:
         seconds.update((crate, int(n)) for crate, n in re.findall(r"^rt: (\w+) proved \((\d+) s\)", pathlib.Path(log).read_text(), re.M))
-    PAGE.write_text(page.replace(stands, table(seconds)))
+    made = rows(seconds)
+    PAGE.write_text(page.replace(stands, table(made)))
+    print(f"edits times check time: {sum(edits * took for *_, edits, took in made):,} s")
 
 
 main()
