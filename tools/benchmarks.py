@@ -1,33 +1,44 @@
-"""Table and plot of the benchmarks: plot.py RESULTS DIR prints the table, writes DIR/BENCHMARKS.md and DIR/bench.svg."""
+"""Table and plot of the benchmarks: benchmarks.py RESULTS DIR prints the table, writes it into DIR/BENCHMARKS.md between the two marks
+of what is measured, and draws DIR/bench.svg. The rest of the page stands as it is."""
 
 import math
+import pathlib
 import subprocess
 import sys
 
-# Operation, title, what it does.
+# Operation and title.
 OPERATIONS = [
-    ("soundness", "Soundness of a book", "an empty batch: the test of the whole book that every call starts with"),
-    ("lookup", "Lookup", "one number of 11 or 12 digits, the test of the book included"),
-    ("call", "One call of a batch", "a batch of 65,535 calls less an empty one, divided by 65,535: the test of the book is left out"),
-    ("first", "Apply: first full notice", "as many lines as the size says, over a fresh book"),
-    ("full", "Apply: full notice", "the codes of the book but a tenth, which it closes"),
-    ("partial", "Apply: partial notice", "the same for a third of the countries"),
-    ("update-all", "Apply: update of every code", "every code of the book"),
-    ("update-100", "Apply: update of 100 codes", "100 lines spread over the book"),
-    ("replacement", "Apply: replacement", "every code of the country that has the most"),
-    ("list", "Standing list", "every code that is open or blocked on a day"),
+    ("soundness", "Soundness of a book"),
+    ("lookup", "Lookup"),
+    ("call", "One call of a batch"),
+    ("first", "Apply: first full notice"),
+    ("full", "Apply: full notice"),
+    ("partial", "Apply: partial notice"),
+    ("update-all", "Apply: update of every code"),
+    ("update-100", "Apply: update of 100 codes"),
+    ("replacement", "Apply: replacement"),
+    ("list", "Standing list"),
 ]
+START, END = "<!-- measured -->", "<!-- end -->"
 
 LIBRARY, PLAIN, INK, FAINT = "#1f5fa8", "#c8641e", "#222222", "#d9d9d9"
+DASHES = ' stroke-dasharray="6 4"'
+POWERS = ["1 ns", "10 ns", "100 ns", "1 µs", "10 µs", "100 µs", "1 ms", "10 ms", "100 ms", "1 s"]
 
 
 def read(path):
-    results = {}
+    """The results by operation: size, library and plain; and the remarks."""
+    results, remarks = {}, []
     for row in open(path):
-        if not row.startswith("#"):
+        if row.startswith("#"):
+            remarks.append(row[2:].strip())
+        else:
             name, size, library, plain = row.rstrip("\n").split("\t")
             results.setdefault(name, []).append((int(size), float(library), float(plain)))
-    return results
+    return results, remarks
+
+
+# The table.
 
 
 def cost(ns):
@@ -39,78 +50,109 @@ def cost(ns):
 
 def table(results):
     rows = [("Operation", "Size", "Library", "Plain C", "Library / plain")]
-    for name, title, _ in OPERATIONS:
+    for name, title in OPERATIONS:
         for size, library, plain in results[name]:
             rows.append((title, f"{size:,}", cost(library), cost(plain), f"{library / plain:.2f}"))
         if name == "soundness":
             size, library, plain = results[name][-1]
-            rows.append((title + ", a million entries", f"from {size:,}", cost(library / size * 1e6),
-                         cost(plain / size * 1e6), f"{library / plain:.2f}"))
+            million = (cost(time / size * 1e6) for time in (library, plain))
+            rows.append((title + ", a million entries", f"from {size:,}", *million, f"{library / plain:.2f}"))
     return rows
 
 
 def as_text(rows):
-    widths = [max(len(r[i]) for r in rows) for i in range(5)]
-    return "\n".join("  ".join([r[0].ljust(widths[0])] + [c.rjust(w) for c, w in zip(r[1:], widths[1:])]) for r in rows)
+    widths = [max(len(row[i]) for row in rows) for i in range(5)]
+    cells = ([row[0].ljust(widths[0]), *(cell.rjust(width) for cell, width in zip(row[1:], widths[1:]))] for row in rows)
+    return "\n".join("  ".join(each) for each in cells)
 
 
 def as_markdown(rows):
-    lines = ["| " + " | ".join(r) + " |" for r in rows]
-    return "\n".join([lines[0], "|---|---:|---:|---:|---:|"] + lines[1:])
+    lines = ["| " + " | ".join(row) + " |" for row in rows]
+    return "\n".join([lines[0], "|---|---:|---:|---:|---:|", *lines[1:]])
 
 
 def machine():
+    """The processor, with its cores."""
     facts = {}
-    for row in subprocess.run(["lscpu"], capture_output=True, text=True, env={"LC_ALL": "C", "PATH": "/usr/bin:/bin"}).stdout.splitlines():
+    told = subprocess.run(["lscpu"], capture_output=True, text=True, env={"LC_ALL": "C", "PATH": "/usr/bin:/bin"})
+    for row in told.stdout.splitlines():
         field, _, value = row.partition(":")
         facts[field.strip()] = value.strip()
     return f"{facts.get('Model name', 'unknown processor')}, {facts.get('CPU(s)', '?')} cores"
 
 
-def power(decade):
-    names = {0: "1 ns", 1: "10 ns", 2: "100 ns", 3: "1 µs", 4: "10 µs", 5: "100 µs", 6: "1 ms", 7: "10 ms", 8: "100 ms", 9: "1 s"}
-    return names[decade]
+def measured(rows, remarks):
+    """The part of the page that is measured."""
+    rounds, compared = remarks
+    told = f"Machine of this run: {machine()}. {rounds}; {compared.split(';')[0]} before."
+    return "\n\n".join([START, as_markdown(rows), "![Cost against size](bench.svg)", told, END])
 
 
-def panel(out, left, top, width, height, title, x_label, y_label, points):
-    ys = [v for _, a, b in points for v in (a, b)]
-    low, high = math.floor(math.log10(min(ys))), math.ceil(math.log10(max(ys)))
-    x_low, x_high = math.log10(700), math.log10(95000)
+# The plot.
 
-    def x(v):
-        return left + (math.log10(v) - x_low) / (x_high - x_low) * width
 
-    def y(v):
-        return top + height - (math.log10(v) - low) / (high - low) * height
+class Panel:
+    """One operation: a frame with both scales logarithmic, the costs of library and plain, and their ratios."""
 
-    out.append(f'<text x="{left}" y="{top - 12}" class="title">{title}</text>')
-    for decade in range(low, high + 1):
-        at = y(10 ** decade)
-        out.append(f'<line x1="{left}" y1="{at:.1f}" x2="{left + width}" y2="{at:.1f}" class="grid"/>')
-        out.append(f'<text x="{left - 7}" y="{at + 4:.1f}" class="tick" text-anchor="end">{power(decade)}</text>')
-    for size, _, _ in points:
-        at = x(size)
-        out.append(f'<line x1="{at:.1f}" y1="{top}" x2="{at:.1f}" y2="{top + height}" class="grid"/>')
-        out.append(f'<text x="{at:.1f}" y="{top + height + 17}" class="tick" text-anchor="middle">{size:,}</text>')
-    out.append(f'<rect x="{left}" y="{top}" width="{width}" height="{height}" class="frame"/>')
-    out.append(f'<text x="{left + width / 2}" y="{top + height + 37}" class="note" text-anchor="middle">{x_label}</text>')
-    middle = top + height / 2
-    out.append(f'<text x="{left - 66}" y="{middle}" class="note" text-anchor="middle" transform="rotate(-90 {left - 66} {middle})">'
-               f"{y_label}</text>")
-    for column, colour, dash in ((2, PLAIN, ' stroke-dasharray="6 4"'), (1, LIBRARY, "")):
-        places = [(x(p[0]), y(p[column])) for p in points]
-        path = " ".join(f"{a:.1f},{b:.1f}" for a, b in places)
-        out.append(f'<polyline points="{path}" fill="none" stroke="{colour}" stroke-width="2"{dash}/>')
-        for a, b in places:
-            if column == 1:
-                out.append(f'<circle cx="{a:.1f}" cy="{b:.1f}" r="4" fill="{colour}"/>')
-            else:
-                out.append(f'<rect x="{a - 4:.1f}" y="{b - 4:.1f}" width="8" height="8" fill="white" stroke="{colour}" stroke-width="2"/>')
-    for size, library, plain in points:
-        at = y(max(library, plain)) - 10
-        if at < top + 14:
-            at = y(min(library, plain)) + 20
-        out.append(f'<text x="{x(size):.1f}" y="{at:.1f}" class="ratio" text-anchor="middle">{library / plain:.2f}</text>')
+    def __init__(self, left, top, width, height, points):
+        self.left, self.top, self.width, self.height, self.points = left, top, width, height, points
+        costs = [cost for _, *both in points for cost in both]
+        self.low, self.high = math.floor(math.log10(min(costs))), math.ceil(math.log10(max(costs)))
+
+    def x(self, size):
+        low, high = math.log10(700), math.log10(95000)
+        return self.left + (math.log10(size) - low) / (high - low) * self.width
+
+    def y(self, cost):
+        return self.top + self.height - (math.log10(cost) - self.low) / (self.high - self.low) * self.height
+
+    def frame(self, title, x_label, y_label):
+        left, top, width, height = self.left, self.top, self.width, self.height
+        yield f'<text x="{left}" y="{top - 12}" class="title">{title}</text>'
+        for decade in range(self.low, self.high + 1):
+            at = self.y(10**decade)
+            yield f'<line x1="{left}" y1="{at:.1f}" x2="{left + width}" y2="{at:.1f}" class="grid"/>'
+            yield f'<text x="{left - 7}" y="{at + 4:.1f}" class="tick" text-anchor="end">{POWERS[decade]}</text>'
+        for size, _, _ in self.points:
+            at = self.x(size)
+            yield f'<line x1="{at:.1f}" y1="{top}" x2="{at:.1f}" y2="{top + height}" class="grid"/>'
+            yield f'<text x="{at:.1f}" y="{top + height + 17}" class="tick" text-anchor="middle">{size:,}</text>'
+        yield f'<rect x="{left}" y="{top}" width="{width}" height="{height}" class="frame"/>'
+        yield f'<text x="{left + width / 2}" y="{top + height + 37}" class="note" text-anchor="middle">{x_label}</text>'
+        middle = top + height / 2
+        turned = f'transform="rotate(-90 {left - 66} {middle})"'
+        yield f'<text x="{left - 66}" y="{middle}" class="note" text-anchor="middle" {turned}>{y_label}</text>'
+
+    def line(self, column, colour, dash):
+        places = [(self.x(point[0]), self.y(point[column])) for point in self.points]
+        path = " ".join(f"{x:.1f},{y:.1f}" for x, y in places)
+        yield f'<polyline points="{path}" fill="none" stroke="{colour}" stroke-width="2"{dash}/>'
+        yield from (mark(x, y, colour, not dash) for x, y in places)
+
+    def ratios(self):
+        for size, library, plain in self.points:
+            at = self.y(max(library, plain)) - 10
+            if at < self.top + 14:
+                at = self.y(min(library, plain)) + 20
+            yield f'<text x="{self.x(size):.1f}" y="{at:.1f}" class="ratio" text-anchor="middle">{library / plain:.2f}</text>'
+
+
+def mark(x, y, colour, filled):
+    if filled:
+        return f'<circle cx="{x:.1f}" cy="{y:.1f}" r="4" fill="{colour}"/>'
+    return f'<rect x="{x - 4:.1f}" y="{y - 4:.1f}" width="8" height="8" fill="white" stroke="{colour}" stroke-width="2"/>'
+
+
+def legend(left):
+    yield f'<text x="{left}" y="34" class="head">Cost of a call against the size of the book</text>'
+    for at, name, colour, dash in ((left, "library", LIBRARY, ""), (left + 120, "plain C", PLAIN, DASHES)):
+        yield f'<line x1="{at}" y1="57" x2="{at + 40}" y2="57" stroke="{colour}" stroke-width="2"{dash}/>'
+        yield mark(at + 20, 57, colour, not dash)
+        yield f'<text x="{at + 48}" y="62" class="note">{name}</text>'
+    yield (
+        f'<text x="{left}" y="88" class="note">Medians of processor time, buffers warm; both scales are logarithmic. '
+        "The small numbers are library divided by plain.</text>"
+    )
 
 
 def plot(results):
@@ -124,79 +166,28 @@ def plot(results):
         "<style>.title{font-size:14px;font-weight:bold}.tick{font-size:12px}.ratio{font-size:11px}.head{font-size:18px;font-weight:bold}"
         f".note{{font-size:13px}}text{{fill:{INK}}}.grid{{stroke:{FAINT};stroke-width:1}}.frame{{fill:none;stroke:#888888}}</style>",
         f'<rect width="{total_x}" height="{total_y}" fill="white"/>',
-        f'<text x="{left - 60}" y="34" class="head">Cost of a call against the size of the book</text>',
-        f'<line x1="{left - 60}" y1="57" x2="{left - 20}" y2="57" stroke="{LIBRARY}" stroke-width="2"/>',
-        f'<circle cx="{left - 40}" cy="57" r="4" fill="{LIBRARY}"/>',
-        f'<text x="{left - 12}" y="62" class="note">library</text>',
-        f'<line x1="{left + 60}" y1="57" x2="{left + 100}" y2="57" stroke="{PLAIN}" stroke-width="2" stroke-dasharray="6 4"/>',
-        f'<rect x="{left + 76}" y="53" width="8" height="8" fill="white" stroke="{PLAIN}" stroke-width="2"/>',
-        f'<text x="{left + 108}" y="62" class="note">plain C</text>',
-        f'<text x="{left - 60}" y="88" class="note">Medians of processor time, buffers warm; both scales are logarithmic. '
-        "The small numbers are library divided by plain.</text>",
+        *legend(left - 60),
     ]
-    for i, (name, title, _) in enumerate(OPERATIONS):
+    for i, (name, title) in enumerate(OPERATIONS):
+        row, column = divmod(i, columns)
+        panel = Panel(left + column * (width + gap_x), top + row * (height + gap_y), width, height, results[name])
         label = "lines of the notice" if name == "first" else "entries of the book"
-        panel(out, left + i % columns * (width + gap_x), top + i // columns * (height + gap_y), width, height, title, label,
-              "time a call" if i % columns == 0 else "", results[name])
-    out.append("</svg>")
-    return "\n".join(out) + "\n"
-
-
-PAGE = """# Benchmarks
-
-`bench/run` proves and builds the library, builds a plain implementation of the same calls with the same checks, written by hand in C
-(`bench/plain.c`), compares the two and times both in one run. It prints the table below and writes this page and the plot.
-
-{table}
-
-![Cost against size](bench.svg)
-
-## Where the library is slower, and why
-
-- Soundness of a small book, and so a lookup in it: the places of a key are tested three at a time, which spares branches that cannot be
-  foreseen and takes some more instructions. Where the processor has learnt the branches of one small book, only these count.
-- An update of few codes: the old entries between its lines are passed one by one. The plain implementation copies them in one piece.
-
-In the other rows the two differ by a few hundredths or the library is faster. A first full notice is merged once and not twice, since
-the new book surely has room; so is every notice whose new book is lent with room for two entries for each old one and one for each line.
-
-## What is measured
-
-- Each call as a C program makes it, from the exported function to its answer. The library is the archive that `rt staticlib` writes; the
-  plain implementation is compiled with `-O2`.
-- Processor time of the process, so that other work on the machine counts little. {rounds}, library and plain in turn, each long
-  enough for the clock; the median counts.
-- Buffers are warm: both have run on the same input before the clock starts, and every round has the same input. At 1,000 entries the
-  processor then knows the branches too: sixty books of 1,000 entries in turn cost as much an entry as one of 60,000.
-- Machine of this run: {machine}.
-
-Operations:
-
-{operations}
-
-Books: codes of 64 countries with up to six more digits, one to four dated entries a code, a fifth of the codes with a pending change;
-notice period 7. Old and new book have exactly the words for the size. Notices are received today and in sequence, so each open line is
-compared with the longest match of the book. Codes with no pending change are listed with their status of today, the others with a
-new rate, so that a notice is accepted at 65,535 entries too.
-
-Before the clock starts, both implementations get all of these inputs and random histories of small books with damaged
-notices, batches and books among them. Answers and every word or byte of the lent memory must be the same, else there is no table.
-In this run: {compared}.
-"""
+        out += panel.frame(title, label, "time a call" if column == 0 else "")
+        out += [*panel.line(2, PLAIN, DASHES), *panel.line(1, LIBRARY, ""), *panel.ratios()]
+    return "\n".join([*out, "</svg>"]) + "\n"
 
 
 def main():
-    path, folder = sys.argv[1:]
-    results = read(path)
+    path, folder = sys.argv[1], pathlib.Path(sys.argv[2])
+    results, remarks = read(path)
     rows = table(results)
     print(as_text(rows))
-    rounds, compared = [row[2:].strip() for row in open(path) if row.startswith("#")]
-    names = "\n".join(f"- {title}: {what}." for _, title, what in OPERATIONS)
-    with open(f"{folder}/BENCHMARKS.md", "w") as f:
-        f.write(PAGE.format(table=as_markdown(rows), rounds=rounds, machine=machine(), operations=names,
-                            compared=compared.split(";")[0]))
-    with open(f"{folder}/bench.svg", "w") as f:
-        f.write(plot(results))
+    page = (folder / "BENCHMARKS.md").read_text()
+    if not (page.count(START) == page.count(END) == 1 and page.index(START) < page.index(END)):
+        sys.exit(f"BENCHMARKS.md needs the marks {START} and {END}, once each")
+    before, after = page[: page.index(START)], page[page.index(END) + len(END) :]
+    (folder / "BENCHMARKS.md").write_text(before + measured(rows, remarks) + after)
+    (folder / "bench.svg").write_text(plot(results))
 
 
 main()
