@@ -77,7 +77,7 @@ def run(given):
         report(outcome, given, path)
         return 1
     print(*coverage.table(outcome.met), sep="\n")
-    faults = [] if alone else [*coverage.table_faults(outcome.met), *coverage.missing(outcome.covered)]
+    faults = [] if alone else [*coverage.table_faults(outcome.met), *coverage.faults(outcome.covered)]
     print(*faults, sep="\n", end="\n" if faults else "")
     met = "" if alone else f", {len(set(coverage.demanded()))} demanded things met" if not faults else ""
     print(f"{outcome.cases} cases, {outcome.calls} calls, {took:.0f} seconds, seed {given.seed}{met}: no difference")

@@ -9,6 +9,9 @@ LARGEST = 2**64 - 1
 LONGEST = "9" * codes.MOST_DIGITS
 MOST_OFFER = Open(rates.DEAREST, rates.MOST_INCREMENT, rates.MOST_INCREMENT)
 TOO_SHORT = range(book.HEADER_WORDS)
+# Entry counts whose words are more than a word can count, or nearly.
+WRAPPING = [2**62, 2**63, 2**64 // book.ENTRY_WORDS, 2**64 // book.ENTRY_WORDS + 1, LARGEST - 3, LARGEST]
+WRAPPING.append((2**64 - book.HEADER_WORDS) // book.ENTRY_WORDS)
 
 START = send(UPDATE, 10, ("1", rate(5)), ("44", rate(5)), ("447", BLOCK, 30))
 NEXT = send(PARTIAL, 40, ("44", rate(4, 30, 6)), ("449", rate(1)))

@@ -60,7 +60,7 @@ def numbers_of_calls(caller, words):
     }
     for number, (digits, moment, duration) in calls.items():
         assert caller.rate_call(words, digits.encode(), moment, duration).refusal == number
-        assert caller.look_up(words, digits.encode(), moment // DAY)[0] == (number if number in (40, 41) else 0)
+        assert caller.look_up(words, digits.encode(), moment // DAY).refusal == (number if number in (40, 41) else 0)
         answer, rows = caller.rate_batch(words, batch(Sent(len(digits), int(digits), moment, duration)), ROW_WORDS + 1)
         assert answer.refusal == 0 and rows[0].refusal == number
     good = batch(call("44", 40, 31))

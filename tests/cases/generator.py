@@ -2,7 +2,7 @@
 
 import random
 
-from cases.books import LARGEST, broken, changed
+from cases.books import LARGEST, WRAPPING, broken, changed
 from cases.writing import BAD_NUMBERS, fields_of, instead
 from reference import book, codes, rates
 from reference.calls import Sent, batch_fields
@@ -17,7 +17,7 @@ INCREMENTS = [(1, 1), (1, 1), (1, 1), (60, 60), (30, 6), (1, 255), (255, 1), (25
 PERIODS = [0, 0, 1, 2, 7, 7, 7, 30, 364, 365]
 MOMENTS = [0, rates.END_OF_MOMENTS - 1, rates.END_OF_MOMENTS, 2**32, 2**32 + 5, MOST_SENT]
 DURATIONS = [0, 1, 5, 6, 29, 30, 31, 59, 60, 61, 254, 255, 256, 604_799, 604_800, 604_801, 2**32, MOST_SENT]
-COUNTS = [2**62, 2**63, 2**64 // 3, 2**64 // 3 + 1, (2**64 - 4) // 3, LARGEST - 3, LARGEST, 65_535, 65_536, 2**32]
+COUNTS = [*WRAPPING, book.MOST_ENTRIES, book.MOST_ENTRIES + 1, 2**32]
 
 
 def numbers_near(pool):
@@ -269,8 +269,8 @@ class Chance:
             return words[: self.below(len(words) + 1)]
         if kind == 4:
             return words + self.pick([[0], [0] * 7, [self.word()], words])
-        if kind == 5:
-            return [self.pick([*COUNTS, words[0] + 1 if words else 1]), *words[1:]]
+        if kind == 5 and sound:
+            return changed(words, book.at_header("count"), self.pick([*COUNTS, book.header(words).count + 1]))
         if kind == 6 and len(words) >= book.room(2):
             return self.exchanged(words)
         if kind == 7:

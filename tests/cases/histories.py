@@ -29,12 +29,13 @@ def look_up(history, number, days):
 
 def told(history, number, days):
     """Rates on days."""
-    return [history.look_up(number, day)[3] for day in days]
+    return [history.look_up(number, day).rate for day in days]
 
 
 def rated(history, number, day, duration):
     """Seconds and charge of a call in the last second of a day."""
-    return history.rate_call(number, day * DAY + DAY - 1, duration)[2:]
+    row = history.rate_call(number, day * DAY + DAY - 1, duration)
+    return row.seconds, row.charge
 
 
 def first_examples(caller):
@@ -67,7 +68,7 @@ def later_examples(caller):
     history = started(caller, 7, send(UPDATE, 10, *lines))
     assert told(history, b"440", [10]) == [94_504_678] and told(history, b"441", [10]) == [999_000_000]
     # A block waits for its notice period.
-    assert [history.look_up(b"442", day)[2] for day in (16, 17)] == [0, 1]
+    assert [history.look_up(b"442", day).status for day in (16, 17)] == [0, 1]
     history = started(caller, 7, send(UPDATE, 10, ("44", rate(13, 60, 60)), ("46", rate(13, 30, 6))))
     assert rated(history, b"44", 10, 61) == (120, 26_000_000)
     assert rated(history, b"46", 10, 31) == (36, 7_800_000)
@@ -91,7 +92,7 @@ def by_hand(caller):
         assert history.apply(bytes.fromhex(data), room(3)) == answer
         look_up(history, b"234806", [99, 100, 106, 107, 110])
     # Code 1 has the key that document 01 gives.
-    assert started(caller, 7, send(UPDATE, 0, ("1", rate(5)))).look_up(b"1", 0)[1] == 759_499_667_166_482
+    assert started(caller, 7, send(UPDATE, 0, ("1", rate(5)))).look_up(b"1", 0).key == 759_499_667_166_482
 
 
 def fresh_books(caller):

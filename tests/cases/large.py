@@ -71,7 +71,7 @@ def most_entries(caller):
 
 def full_book(caller, full):
     """Calls by a book of the most entries, and by such books that are damaged."""
-    assert caller.look_up(full, b"2000099", 20)[:3] == [0, key("20000"), 2]
+    assert caller.look_up(full, b"2000099", 20).key == key("20000")
     assert caller.rate_call(full, b"3000099", 20 * DAY, 61).refusal == 0
     answer, _ = caller.write_list(full, 20, 600_000)
     assert answer.refusal == 0
@@ -80,13 +80,13 @@ def full_book(caller, full):
     # The count of a book that is longer still.
     longer = full + [0] * book.ENTRY_WORDS
     caller.look_up(longer, b"20000", 20)
-    assert caller.look_up(changed(longer, book.at_header("count"), MOST_ENTRIES + 1), b"20000", 20)[0] == 21
+    assert caller.look_up(changed(longer, book.at_header("count"), MOST_ENTRIES + 1), b"20000", 20).refusal == 21
     # The last code has one entry: it may start blocked and not closed.
     at = book.at_entry(MOST_ENTRIES - 1, "offer")
-    assert caller.look_up(changed(full, at, rates.offer_word(BLOCKED)), b"20000", 20)[0] == 0
-    assert caller.look_up(changed(full, at, rates.offer_word(CLOSED)), b"20000", 20)[0] == 21
+    assert caller.look_up(changed(full, at, rates.offer_word(BLOCKED)), b"20000", 20).refusal == 0
+    assert caller.look_up(changed(full, at, rates.offer_word(CLOSED)), b"20000", 20).refusal == 21
     last, before = book.at_entry(MOST_ENTRIES - 1), book.at_entry(MOST_ENTRIES - 2)
-    assert caller.look_up(full[:last] + full[before:last], b"20000", 20)[0] == 21
+    assert caller.look_up(full[:last] + full[before:last], b"20000", 20).refusal == 21
 
 
 def most_calls(caller):

@@ -1,14 +1,12 @@
 """Every clause of "sound" broken by one word, and lengths that are too short or too long, by each call that reads a book."""
 
-from cases.books import BOOK, LARGEST, TINY, changed, small_book, unsound_by_one, words_of
+from cases.books import BOOK, TINY, WRAPPING, changed, small_book, unsound_by_one, words_of
 from cases.writing import batch, rate, send
 from reference import book, rates
 from reference.calls import ROW_WORDS, call
 from reference.notice import UPDATE
 
 DAY = rates.SECONDS_PER_DAY
-# Products that wrap.
-COUNTS = [2**62, 2**63, 2**64 // 3, 2**64 // 3 + 1, (2**64 - 4) // 3, 2**64 // book.ENTRY_WORDS, LARGEST - 3, LARGEST]
 
 
 def each_call(caller, words):
@@ -28,7 +26,7 @@ def damaged_books(caller):
     broken += {at: made for at, _, made in unsound_by_one(words_of(BOOK))}.values()
     for made in broken:
         each_call(caller, made)
-    for count in COUNTS:
+    for count in WRAPPING:
         for length in (book.HEADER_WORDS, book.HEADER_WORDS + 1, book.room(1), len(small)):
             each_call(caller, changed(small[:length], book.at_header("count"), count))
 

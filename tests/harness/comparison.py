@@ -4,8 +4,10 @@ tests/evidence.py does."""
 import collections
 import random
 import struct
+from typing import NamedTuple
 
 from harness import coverage
+from harness.coverage import STATES
 from harness.lent import read_only, writable
 from reference import book, calls, lists
 from reference.fields import Refused
@@ -30,15 +32,24 @@ def fresh(length, period):
         return refused.number, old_words(length)
 
 
+class Found(NamedTuple):
+    """The answer to a lookup: `status` is a place in STATES, and what follows is 0 where it is not open."""
+
+    refusal: int
+    key: int = 0
+    status: int = 0
+    rate: int = 0
+    first: int = 0
+    next: int = 0
+
+
 def look_up(words, number, day):
-    """Refusal, matched key, status (0 closed, 1 blocked, 2 open), rate and increments."""
     try:
         key, offer = book.look_up(words, number, day)
     except Refused as refused:
-        return [refused.number, 0, 0, 0, 0, 0]
-    if offer in (CLOSED, BLOCKED):
-        return [0, key, [CLOSED, BLOCKED].index(offer), 0, 0, 0]
-    return [0, key, 2, *offer]
+        return Found(refused.number)
+    status = STATES.index(coverage.state(offer))
+    return Found(0, key, status) if offer in (CLOSED, BLOCKED) else Found(0, key, status, *offer)
 
 
 class Caller:
@@ -85,8 +96,8 @@ class Caller:
     def look_up(self, words, number, day):
         answer = look_up(words, number, day)
         self.by_book("lookup", words, [read_only(number), day], answer)
-        if answer[0] == 0:
-            self.covered["lookup", "offer", (CLOSED, BLOCKED, "open")[answer[2]]] += 1
+        if answer.refusal == 0:
+            self.covered["lookup", "offer", STATES[answer.status]] += 1
         return answer
 
     def rate_call(self, words, number, moment, duration):

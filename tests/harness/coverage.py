@@ -22,6 +22,7 @@ POSSIBLE = {
 
 FIRST, LATER = "first", "later"
 EXACT, MORE = "exact room", "more room"
+STATES = [CLOSED, BLOCKED, "open"]
 LIST_DAYS = [0, 127, 128, 60_000]
 LIST_LINES = [1, 127, 128]
 
@@ -96,17 +97,16 @@ def causes():
 
 
 def demanded():
-    """What must be met beside the refusal numbers."""
+    """What must be met beside the refusal numbers: all that can be."""
     yield from (("apply", *cause) for cause in causes())
     yield from (("apply", number, kind) for number in (0, 10, 30) for kind in KINDS)
     yield from (("apply", 20, which) for which in ("old", "new"))
     yield from (("apply", order, kind) for order in ("in sequence", "out of sequence") for kind in (FULL, PARTIAL, UPDATE))
     yield "apply", "replacement", REPLACEMENT
-    lines = [("open", "increase"), ("open", "no increase"), (BLOCKED, "increase"), (CLOSED, "increase")]
-    yield from (("apply", "line", *line) for line in lines)
+    yield from (("apply", "line", state, which) for state in STATES for which in ("increase", "no increase"))
     with_book = ("apply", "lookup", "rate_call", "rate_batch", "list")
     yield from ((call, 21, why) for call in with_book for why in book.UNSOUND)
-    yield from (("lookup", "offer", state) for state in ("open", BLOCKED, CLOSED))
+    yield from (("lookup", "offer", state) for state in STATES)
     yield from (("rate_batch", number, "calls", FIRST) for number in (1, 2, 4))
     for field in calls.Sent._fields:
         yield from (("rate_batch", number, field, place) for number in (1, 2) for place in (FIRST, LATER))
@@ -116,9 +116,11 @@ def demanded():
     yield from (("history", what) for what in ("apply", "lookup", "list"))
 
 
-def missing(covered):
-    """What must be met and was not."""
-    return [f"not met: {', '.join(map(str, each))}" for each in demanded() if each not in covered]
+def faults(covered):
+    """What must be met and was not, and what was met and cannot be."""
+    known = dict.fromkeys(demanded())
+    yield from (f"not met: {', '.join(map(str, each))}" for each in known if each not in covered)
+    yield from (f"cannot be met: {', '.join(map(str, each))}" for each in covered if each not in known)
 
 
 # The table.

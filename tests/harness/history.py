@@ -79,7 +79,7 @@ class History:
         if chosen is None:
             return None
         answer = self.caller.look_up(chosen, number, day)
-        if machine is not None and answer[0] == 0:
+        if machine is not None and answer.refusal == 0:
             told, found = machine.offer(number.decode(), day), book.look_up(chosen, number, day)
             assert told == found, ("the machine", told, "the book", found)
             self.caller.covered["history", "lookup"] += 1

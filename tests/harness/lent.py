@@ -129,6 +129,11 @@ ANSWERS = {
 }
 
 
+def answer_numbers(name):
+    """How many numbers a call answers."""
+    return ctypes.sizeof(ANSWERS[name]) // ctypes.sizeof(ctypes.c_uint64)
+
+
 class Library:
     """The functions of a shared object. `mark` is told of each call before it is made, with its arguments if `telling`.
 
@@ -172,7 +177,7 @@ class Library:
             signal.setitimer(signal.ITIMER_PROF, self.longest)
             answer = self.functions[name](*passed)
             signal.setitimer(signal.ITIMER_PROF, 0)
-            found = (answer,) if isinstance(answer, int) else struct.unpack(f"<{ctypes.sizeof(answer) // 8}Q", bytes(answer))
+            found = (answer,) if isinstance(answer, int) else struct.unpack(f"<{answer_numbers(name)}Q", bytes(answer))
             # All slices are taken back, so that all can be written again, before one is told of.
             wrong = [told for area in lent if area is not None and (told := area.take_back()) is not None]
             if found != tuple(expected):

@@ -7,7 +7,7 @@ from cases.directed import every_number, lengths
 from cases.random_histories import numbered, random_case
 from harness import coverage, misreadings, shrinking
 from harness.coverage import ALL_NUMBERS, POSSIBLE
-from harness.lent import AT_END, AT_START, Library
+from harness.lent import AT_END, AT_START, Library, answer_numbers
 from harness.runs import in_child, run_cases
 
 # Faults in the calls. Kinds, calls and places are numbered as in faults.c.
@@ -15,7 +15,7 @@ from harness.runs import in_child, run_cases
 KINDS = ["none", "answer", "first", "last", "if refused", "write before", "write after", "read before", "read after"]
 KINDS += ["write read-only", "endless"]
 CALLS = ["words", "fresh", "apply", "lookup", "rate_call", "rate_batch", "list"]
-ANSWER_NUMBERS = dict(zip(CALLS, [1, 1, 4, 6, 4, 4, 2]))
+ANSWER_NUMBERS = {call: answer_numbers(call) for call in CALLS}
 READ_SLICES = {"apply": [0, 1], "lookup": [0, 1], "rate_call": [0, 1], "rate_batch": [0, 1], "list": [0]}
 WRITTEN_SLICES = {"fresh": 0, "apply": 2, "rate_batch": 2, "list": 1}
 STRAY = "SIGSEGV"
@@ -86,11 +86,13 @@ def missed_tables(path):
 
 
 def missed_demands():
-    """All that is demanded, and all but one thing."""
+    """All that is demanded, all but one thing, and more."""
     whole = set(coverage.demanded())
-    yield None if not coverage.missing(whole) else "demands: something is missing where nothing is"
+    yield None if not list(coverage.faults(whole)) else "demands: something is told where all is met"
     for each in whole:
-        yield None if len(coverage.missing(whole - {each})) == 1 else f"demands: not found: {each}"
+        yield None if len(list(coverage.faults(whole - {each}))) == 1 else f"demands: not found: {each}"
+    strange = {("apply", 4, None, "kind", "first"), ("rate_batch", 4, "count", "first"), ("list", 21, "why")}
+    yield None if len(list(coverage.faults(whole | strange))) == len(strange) else "demands: what cannot be met is not told"
 
 
 # Misreadings in the reference.
