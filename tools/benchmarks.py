@@ -1,5 +1,5 @@
-"""Table and plot of the benchmarks: benchmarks.py RESULTS DIR prints the table, writes it into DIR/BENCHMARKS.md between the two marks
-of what is measured, and draws DIR/bench.svg. The rest of the page stands as it is."""
+"""Table and plot of the benchmarks: benchmarks.py RESULTS DIR prints the table, writes it into DIR/BENCHMARKS.md between the two
+marks of what is measured, and draws DIR/bench.svg. The rest of the page stands as it is."""
 
 import math
 import pathlib

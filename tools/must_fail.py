@@ -10,7 +10,8 @@ import re
 from typing import NamedTuple
 
 RUST_ITEM = re.compile(
-    r'(?:pub(?:\([a-z]+\))? )?(?:const (?=fn|unsafe))?(?:unsafe )?(?:extern "C" )?(fn|const|static|struct|enum|type|trait|mod) (\w+)'
+    r'(?:pub(?:\([a-z]+\))? )?(?:const (?=fn|unsafe))?(?:unsafe )?(?:extern "C" )?'
+    r"(fn|const|static|struct|enum|type|trait|mod) (\w+)"
 )
 IMPL = re.compile(r"impl(?:<[^>]*>)? (?:.* for )?(\w+)")
 USE = re.compile(r"(ghost |pub )*use\b")

@@ -62,7 +62,8 @@ def main():
         print("sizes: as the files are")
         return
     for log in sys.argv[1:]:
-        seconds.update((crate, int(n)) for crate, n in re.findall(r"^rt: (\w+) proved \((\d+) s\)", pathlib.Path(log).read_text(), re.M))
+        proved = re.findall(r"^rt: (\w+) proved \((\d+) s\)", pathlib.Path(log).read_text(), re.M)
+        seconds.update((crate, int(n)) for crate, n in proved)
     made = rows(seconds)
     PAGE.write_text(page.replace(stands, table(made)))
     print(f"edits times check time: {sum(edits * took for *_, edits, took in made):,} s")

@@ -1,14 +1,16 @@
-"""Misreadings of document 01, each put into the reference in place of a function, of a method or of a number. The first five are its
-own ("Misreadings of a card"). Nothing to run here: tests/evidence.py --self-test does.
+"""Misreadings of document 01, each put into the reference in place of a function, a method or a constant. The first five are the
+document's own ("Misreadings of a card"). Nothing to run here: tests/evidence.py --self-test does.
 
-A misreading is where it stands, its name there, and what stands there instead, made of what stood there. It is put in by a process
-that ends with it.
+A misreading is where it stands, its name there, and what stands there instead, made of what stood there. The process that puts it in
+ends with it.
 """
 
+import math
 from fractions import Fraction
 
 from reference import book, codes, effective_days, lists, matching, rates
 from reference.effective_days import Change, Effect
+from reference.notice import PARTIAL
 from reference.rates import BLOCKED, CLOSED, DEAREST
 
 
@@ -39,6 +41,22 @@ def rounding_after_testing(plain):
     return lambda mantissa, decimals: (
         BLOCKED if Fraction(mantissa, 10**decimals) * 10**8 > DEAREST else plain(mantissa, decimals)
     )
+
+
+def halves_are_rounded_down(plain):
+    def rate(mantissa, decimals):
+        rounded = math.ceil(Fraction(mantissa, 10**decimals) * 10**8 - Fraction(1, 2))
+        return BLOCKED if rounded > DEAREST else rounded
+
+    return rate
+
+
+def deletes_name_no_country(plain):
+    def closes(effect, digits):
+        named = {codes.country_code(each) for each, change in effect.lines.items() if change.status != CLOSED}
+        return plain(effect, digits) and (effect.notice.kind != PARTIAL or codes.country_code(digits) in named)
+
+    return closes
 
 
 def charge_is_rounded_down(plain):
@@ -75,6 +93,17 @@ MISREADINGS = {
     "lists have seven decimals": (lists, "LIST_DECIMALS", lambda plain: plain - 1),
     "a block is no increase": (
         effective_days, "is_increase", lambda plain: lambda line, offer: line.status != BLOCKED and plain(line, offer)
+    ),
+    "halves are rounded down": (rates, "rate", halves_are_rounded_down),
+    "a listed day before the received day counts": (
+        effective_days, "wanted_day", lambda plain: lambda notice, line: line.listed - 1 if line.listed else notice.received
+    ),
+    "a call of no seconds is charged the first increment": (
+        rates, "charged_seconds", lambda plain: lambda first, following, duration: plain(first, following, max(1, duration))
+    ),
+    "a partial notice names no country by a delete": (Effect, "closes", deletes_name_no_country),
+    "countries 45 to 49 have three digits": (
+        codes, "TWO_DIGIT_COUNTRIES", lambda plain: plain - {str(value) for value in range(45, 50)}
     ),
     "the key of 44 goes": (
         matching, "longest_match",

@@ -127,7 +127,8 @@ def missed_shrinking(path):
     yield None if shrinking.saved(shrinking.FAILING) == cut else "shrinking: the saved steps are others"
     shrinking.FAILING.unlink()
     yield None if len(steps) > len(cut) in (1, 2) else f"shrinking: {len(cut)} of {len(steps)} steps are left"
-    yield None if differs(cut) and not any(differs(cut[:at] + cut[at + 1 :]) for at in range(len(cut))) else "shrinking: not the fewest"
+    fewer = [cut[:at] + cut[at + 1 :] for at in range(len(cut))]
+    yield None if differs(cut) and not any(map(differs, fewer)) else "shrinking: the steps are not the fewest"
 
 
 def run(plain, with_faults):
