@@ -1,5 +1,6 @@
 """Edge cases of notices: each field cut, lengthened and at its range's ends, codes, countries, order and days."""
 
+from cases.books import open_at, words_of
 from cases.writing import P1, P2, PAIR, RATE, blocks, damaged, fields_of, instead, sent, wholes
 from reference import book, rates
 from reference.codes import MOST_DIGITS
@@ -206,7 +207,9 @@ EDGES = [
 
 
 def notices(caller):
-    """The edge cases of reading a notice, each on a fresh book."""
+    """The edge cases of reading a notice, each on a fresh book and on one whose latest effective day lies among the listed days."""
     fresh = caller.fresh(book.HEADER_WORDS, 7)
+    standing = words_of([("44", 0, open_at(5)), ("445", 0, open_at(9)), ("446", 250, open_at(20))], received=0, latest=250)
     for data in dict.fromkeys(data for edges in EDGES for data in edges()):
-        caller.apply(fresh, data, book.room(140))
+        for words in (fresh, standing):
+            caller.apply(words, data, book.room(140))

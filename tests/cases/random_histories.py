@@ -124,6 +124,14 @@ class Player:
         history.rate_batch(chance.batch(calls), max(0, length + chance.pick([0, 0, 0, 1, 5, -1, -4, -length])), words=words)
         self.standing_list(words)
 
+    def sweep(self):
+        """Numbers on days next to change days, more of them than a question asks for."""
+        near = {entry.day + more for entry in book.entries(self.history.words) for more in (-1, 0, 1)}
+        days = [day for day in sorted(near) if day >= 0]
+        for number in sorted({self.chance.pick(self.numbers) for _ in range(12)}):
+            for day in days[:: 1 + len(days) // 12]:
+                self.history.look_up(number.encode(), day)
+
     def standing_list(self, words):
         history, chance = self.history, self.chance
         day = self.day()
@@ -174,6 +182,8 @@ def play(history, seed, number):
         player.received = min(LAST_RECEIVED_DAY, later)
         chance.pick(Player.STEPS)(player)
     player.ask()
+    if chance.likely(10):
+        player.sweep()
 
 
 def play_long(history, chance):
