@@ -79,8 +79,8 @@ def run(given):
     print(*coverage.table(outcome.met), sep="\n")
     faults = [] if alone else [*coverage.table_faults(outcome.met), *coverage.faults(outcome.covered)]
     print(*faults, sep="\n", end="\n" if faults else "")
-    met = "" if alone else f", {len(set(coverage.demanded()))} demanded things met" if not faults else ""
-    print(f"{outcome.cases} cases, {outcome.calls} calls, {took:.0f} seconds, seed {given.seed}{met}: no difference")
+    met = "" if alone else f"; {len(faults)} of {len(set(coverage.demanded()))} demands not met" if faults else "; all demands met"
+    print(f"{outcome.cases} cases, {outcome.calls} calls, {took:.0f} seconds, seed {given.seed}: no difference{met}")
     return 1 if faults else 0
 
 

@@ -6,6 +6,7 @@ import collections
 from cases.directed import every_number, lengths
 from cases.random_histories import numbered, random_case
 from harness import coverage, misreadings, shrinking
+from harness.building import FOLDER
 from harness.coverage import ALL_NUMBERS, POSSIBLE
 from harness.lent import AT_END, AT_START, Library, answer_numbers
 from harness.runs import in_child, run_cases
@@ -116,19 +117,22 @@ def missed_misreadings(path):
 
 
 def missed_shrinking(path):
-    """A fault in lists leaves two steps of a random case, a book and a list; both are found again, and neither by itself."""
-
-    def differs(steps):
-        return in_child(lambda mark: run_cases(faulty(path, mark, "answer", "list", 1, AT_END), [shrinking.case_of(steps)])).wrong
-
+    """A wrong answer and a stray access in lists: of a random case one or two steps are left, a book and a list, and no fewer."""
     steps = shrinking.steps_of(random_case(1, 0))
-    cut = shrinking.shrunk(steps, differs)
-    shrinking.save(cut)
-    yield None if shrinking.saved(shrinking.FAILING) == cut else "shrinking: the saved steps are others"
-    shrinking.FAILING.unlink()
-    yield None if len(steps) > len(cut) in (1, 2) else f"shrinking: {len(cut)} of {len(steps)} steps are left"
-    fewer = [cut[:at] + cut[at + 1 :] for at in range(len(cut))]
-    yield None if differs(cut) and not any(map(differs, fewer)) else "shrinking: the steps are not the fewest"
+    for kind in ("answer", "read after"):
+
+        def differs(tried):
+            case = shrinking.case_of(tried)
+            return in_child(lambda mark: run_cases(faulty(path, mark, kind, "list", 1, AT_END), [case])).wrong
+
+        cut = shrinking.shrunk(steps, differs)
+        fewer = [cut[:at] + cut[at + 1 :] for at in range(len(cut))]
+        fewest = len(cut) <= 2 < len(steps) and differs(cut) and not any(map(differs, fewer))
+        yield None if fewest else f"shrinking by {kind}: {len(cut)} of {len(steps)} steps are left"
+        file = FOLDER / "self-test-steps"
+        shrinking.save(cut, file)
+        yield None if shrinking.saved(file) == cut else "shrinking: the saved steps are others"
+        file.unlink()
 
 
 def run(plain, with_faults):

@@ -48,11 +48,10 @@ def shrunk(steps, differs):
         size = max(1, size // 2)
 
 
-def save(steps):
+def save(steps, path=FAILING):
     """Writes steps, one a line, and gives the file's name from the top of the repository."""
-    FAILING.parent.mkdir(parents=True, exist_ok=True)
-    FAILING.write_text("".join(f"{each!r}\n" for each in steps))
-    return FAILING.relative_to(ROOT)
+    path.write_text("".join(f"{each!r}\n" for each in steps))
+    return path.relative_to(ROOT)
 
 
 def saved(path):
