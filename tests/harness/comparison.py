@@ -2,30 +2,16 @@
 tests/evidence.py does."""
 
 import collections
-import functools
 import random
 import struct
+from typing import NamedTuple
 
-import machine
-import notice
-import rate_book as book
-import rating
-from lent import read_only, writable
-from notice import refuse
-from rate_book import BLOCKED, CLOSED, Refused
-
-ALL_NUMBERS = [0, *range(1, 11), 20, 21, 22, 23, 30, *range(40, 45)]
-
-# The refusal numbers of each call, after "Order" in document 01; of a batch, the rows apart.
-POSSIBLE = {
-    "fresh": [0, 20, 22],
-    "apply": [0, *range(1, 11), 20, 21, 30],
-    "lookup": [0, 20, 21, 40, 41],
-    "rate_call": [0, 20, 21, *range(40, 45)],
-    "rate_batch": [0, 1, 2, 4, 9, 20, 21, 23],
-    "batch rows": [0, *range(40, 45)],
-    "list": [0, 20, 21, 23, 41, 43],
-}
+from harness import coverage
+from harness.coverage import STATES
+from harness.lent import read_only, writable
+from reference import book, calls, lists
+from reference.fields import Refused
+from reference.rates import BLOCKED, CLOSED
 
 # What writable slices hold before a call.
 MOST_WORDS = 300_000
@@ -38,72 +24,60 @@ def old_words(length):
     return OLD_WORDS[:length]
 
 
-# The same keys, books, notices and batches are read again and again.
-for name in ("key", "digits_of_key", "is_code_key"):
-    plain = getattr(book, name)
-    setattr(book, name, functools.lru_cache(maxsize=2**17)(getattr(plain, "__wrapped__", plain)))
-notice.read_notice = functools.lru_cache(maxsize=2)(notice.read_notice)
-rating.read_batch = functools.lru_cache(maxsize=2)(rating.read_batch)
-PlainRead = machine.Read
-read_once = functools.lru_cache(maxsize=4)(PlainRead)
-machine.Read = lambda words: read_once(tuple(words))
-
-
-# What the reference answers.
-
-
-def offer_numbers(answer):
-    """An answer as status, rate and increments: 0 closed, 1 blocked, 2 open."""
-    if answer.offer in (CLOSED, BLOCKED):
-        return [answer.key, [CLOSED, BLOCKED].index(answer.offer), 0, 0, 0]
-    return [answer.key, 2, *answer.offer]
-
-
 def fresh(length, period):
     """Refusal and words of a fresh book."""
     try:
-        return 0, machine.fresh(length, period)
+        return 0, book.fresh(length, period)
     except Refused as refused:
         return refused.number, old_words(length)
 
 
+class Found(NamedTuple):
+    """The answer to a lookup: `status` is a place in STATES, and what follows is 0 where it is not open."""
+
+    refusal: int
+    key: int = 0
+    status: int = 0
+    rate: int = 0
+    first: int = 0
+    next: int = 0
+
+
 def look_up(words, number, day):
     try:
-        return [0, *offer_numbers(machine.look_up(words, number, day))]
+        key, offer = book.look_up(words, number, day)
     except Refused as refused:
-        return [refused.number, 0, 0, 0, 0, 0]
-
-
-def rate_call(words, number, moment, duration):
-    """One call by document 01: 20, 21, then 40 to 44 rising; the key only of a rated or blocked call."""
-    key = 0
-    try:
-        read = machine.Read(words)
-        digits = book.number_digits(number)
-        refuse(41, not book.is_moment(moment))
-        key, offer = read.offer(digits, book.day_of(moment))
-        seconds, charge = book.charge(offer, duration)
-    except Refused as refused:
-        return [refused.number, key if refused.number == 44 else 0, 0, 0]
-    return [0, key, seconds, charge]
+        return Found(refused.number)
+    status = STATES.index(coverage.state(offer))
+    return Found(0, key, status) if offer in (CLOSED, BLOCKED) else Found(0, key, status, *offer)
 
 
 class Caller:
-    """Makes each call by the library and by the reference. `met` counts refusals by call, `calls` the compared calls."""
+    """Makes each call by the library and by the reference; by the reference alone where there is no library.
+
+    `met` counts refusals by call, `covered` what coverage.py demands besides, `calls` the compared calls.
+    """
 
     def __init__(self, library):
         self.library = library
         self.met = collections.Counter()
+        self.covered = collections.Counter()
         self.calls = 0
 
     def compare(self, name, arguments, expected):
-        self.library.call(name, arguments, expected)
-        self.calls += len(self.library.placements)
-        if name in POSSIBLE:
+        if self.library is not None:
+            self.library.call(name, arguments, expected)
+            self.calls += len(self.library.placements)
+        if name in coverage.POSSIBLE:
             self.met[name, expected[0]] += 1
 
+    def by_book(self, name, words, arguments, expected):
+        """A call that reads a book."""
+        self.compare(name, [read_only(words), *arguments], expected)
+        self.covered.update(coverage.of_book(name, expected[0], words))
+
     def words(self, entries):
-        self.compare("words", [entries], [4 + 3 * min(entries, 65_535)])
+        self.compare("words", [entries], [book.room(min(entries, book.MOST_ENTRIES))])
 
     def fresh(self, length, period):
         """The words of the book, None if it is refused."""
@@ -113,36 +87,40 @@ class Caller:
 
     def apply(self, old, data, length):
         """The answer, and the words of the new book, None if it is refused."""
-        answer, left = machine.apply(old, data, length)
+        answer, left, effect = book.apply(old, data, length)
         before = old_words(length)
-        lent = [read_only(old), read_only(data), writable(before, before if left is None else left)]
-        self.compare("apply", lent, answer)
+        self.by_book("apply", old, [read_only(data), writable(before, before if left is None else left)], answer)
+        self.covered.update(coverage.of_apply(old, data, answer, effect))
         return answer, left
 
     def look_up(self, words, number, day):
         answer = look_up(words, number, day)
-        self.compare("lookup", [read_only(words), read_only(number), day], answer)
+        self.by_book("lookup", words, [read_only(number), day], answer)
+        if answer.refusal == 0:
+            self.covered["lookup", "offer", STATES[answer.status]] += 1
         return answer
 
     def rate_call(self, words, number, moment, duration):
-        answer = rate_call(words, number, moment, duration)
-        self.compare("rate_call", [read_only(words), read_only(number), moment, duration], answer)
+        answer = calls.rate_call(words, number, moment, duration)
+        self.by_book("rate_call", words, [read_only(number), moment, duration], answer)
         return answer
 
     def rate_batch(self, words, data, length):
         """The answer, and the rows."""
         before = old_words(length)
-        answer, left = rating.rate_batch(words, data, before)
-        self.compare("rate_batch", [read_only(words), read_only(data), writable(before, left)], answer)
-        if answer.refusal == 0:
-            calls = answer.rated + answer.refused
-            self.met.update(("batch rows", left[4 * i]) for i in range(calls))
-        return answer, left
+        answer, left = calls.rate_batch(words, data, before)
+        self.by_book("rate_batch", words, [read_only(data), writable(before, left)], answer)
+        self.covered.update(coverage.of_batch(data, answer, length))
+        rows = calls.rows_of(left, answer.rated + answer.refused)
+        self.met.update(("batch rows", row.refusal) for row in rows)
+        return answer, rows
 
     def write_list(self, words, day, length):
         """The answer, and the list's bytes."""
         assert length <= len(OLD_BYTES)
         before = OLD_BYTES[:length]
-        answer, left = rating.write_list(words, day, before)
-        self.compare("list", [read_only(words), day, writable(before, left)], answer)
-        return answer, left[: answer.length]
+        answer, left = lists.write_list(words, day, before)
+        self.by_book("list", words, [day, writable(before, left)], answer)
+        data = left[: answer.length]
+        self.covered.update(coverage.of_list(day, answer, length, data))
+        return answer, data

@@ -12,10 +12,7 @@ import mmap
 import random
 import signal
 import struct
-import subprocess
 from typing import NamedTuple
-
-from vectors import ROOT
 
 PAGE = mmap.PAGESIZE
 READ, WRITE = mmap.PROT_READ, mmap.PROT_WRITE
@@ -27,37 +24,6 @@ libc = ctypes.CDLL(None, use_errno=True)
 libc.mmap.restype = ctypes.c_void_p
 libc.mmap.argtypes = [ctypes.c_void_p, ctypes.c_size_t, ctypes.c_int, ctypes.c_int, ctypes.c_int, ctypes.c_long]
 libc.mprotect.argtypes = [ctypes.c_void_p, ctypes.c_size_t, ctypes.c_int]
-
-
-# Building.
-
-
-def archive():
-    """The library's archive, built where it is missing or older than a source."""
-    made = ROOT / "target" / "staticlib" / "librate_book.a"
-    crates = ROOT / "crates.txt"
-    line = next(line for line in crates.read_text().splitlines() if line.startswith("rate_book:"))
-    folders = [ROOT / "crates" / name for name in line.replace(":", "").split()]
-    sources = [crates, *(path for folder in folders for path in folder.rglob("*") if path.suffix in (".rt", ".antt"))]
-    if not made.exists() or made.stat().st_mtime < max(path.stat().st_mtime for path in sources):
-        built = subprocess.run(["rt", "staticlib", "rate_book"], cwd=ROOT, stdout=subprocess.PIPE, stderr=subprocess.STDOUT)
-        if built.returncode != 0:
-            raise SystemExit(built.stdout.decode(errors="replace") + "rt staticlib rate_book failed")
-    return made
-
-
-def shared_object(name, *sources):
-    """The archive, with more sources, as a shared object."""
-    whole = archive()
-    folder = ROOT / "target" / "evidence"
-    folder.mkdir(parents=True, exist_ok=True)
-    made = folder / name
-    if not made.exists() or made.stat().st_mtime < max(path.stat().st_mtime for path in (whole, *sources)):
-        linked = ["-Wl,--whole-archive", str(whole), "-Wl,--no-whole-archive"]
-        if subprocess.run([ROOT / "tools" / "need", "cc"]).returncode != 0:
-            raise SystemExit(1)
-        subprocess.run(["cc", "-O1", "-fPIC", "-shared", "-o", str(made), *map(str, sources), *linked], check=True)
-    return made
 
 
 # Lent memory.
@@ -163,6 +129,11 @@ ANSWERS = {
 }
 
 
+def answer_numbers(name):
+    """How many numbers a call answers."""
+    return ctypes.sizeof(ANSWERS[name]) // ctypes.sizeof(ctypes.c_uint64)
+
+
 class Library:
     """The functions of a shared object. `mark` is told of each call before it is made, with its arguments if `telling`.
 
@@ -206,7 +177,7 @@ class Library:
             signal.setitimer(signal.ITIMER_PROF, self.longest)
             answer = self.functions[name](*passed)
             signal.setitimer(signal.ITIMER_PROF, 0)
-            found = (answer,) if isinstance(answer, int) else struct.unpack(f"<{ctypes.sizeof(answer) // 8}Q", bytes(answer))
+            found = (answer,) if isinstance(answer, int) else struct.unpack(f"<{answer_numbers(name)}Q", bytes(answer))
             # All slices are taken back, so that all can be written again, before one is told of.
             wrong = [told for area in lent if area is not None and (told := area.take_back()) is not None]
             if found != tuple(expected):

@@ -1,19 +1,15 @@
-"""A reference reader and writer of notices, for tests to compare the compiled code with.
+"""Notices, read and written ("Notice layout", "Who can cause a refusal")."""
 
-Written from document 01 ("Notice layout", "Who can cause a refusal") and its readings alone, to be read beside them. Python
-3, standard library only. Nothing to run here: tests import it. It stands on rate_book.py, beside it.
-"""
-
+from functools import lru_cache
 from typing import NamedTuple
 
-import rate_book as book
-from rate_book import Refused
+from reference import codes, fields, rates
+from reference.fields import Field, refuse
 
 KINDS = FULL, PARTIAL, UPDATE, REPLACEMENT = 1, 2, 3, 4
 STATUSES = DELETE, BLOCK, RATE = 0, 1, 2
 MOST_LINES = 65_535
-MOST_SECONDS = 255
-MOST_LISTED = book.LAST_DAY + 1
+MOST_LISTED = rates.LAST_DAY + 1
 
 
 class Line(NamedTuple):
@@ -25,77 +21,47 @@ class Line(NamedTuple):
 
 
 class Notice(NamedTuple):
-    """A notice: country is the digits of a replacement's country, else None; start is where the first line starts."""
+    """A notice: country is the digits of a replacement's country, else None."""
 
     kind: int
     received: int
     country: str
-    lines: list
-    start: int
-
-    def earliest_listed_day(self):
-        """The earliest listed day, where a line that lists none counts as listing day 0."""
-        return min(max(line.listed, 1) - 1 for line in self.lines)
+    lines: tuple
 
 
-class Reader:
-    """Stands in a notice and gives its fields one by one. Each method raises the first refusal in document 01's order.
-
-    `field` is the name of the field that was read last, and `line` the number of its line, 0 before the lines: after a
-    refusal they say where its cause lies.
-    """
-
-    def __init__(self, data):
-        self.data = data
-        self.at = 0
-        self.line = 0
-        self.field = None
-
-    def number(self, field):
-        self.field = field
-        value, self.at = book.read_varint(self.data, self.at)
-        return value
-
-    def ranged(self, field, least, most):
-        value = self.number(field)
-        refuse(4, not least <= value <= most)
-        return value
-
-    def named(self, field, known):
-        value = self.number(field)
-        refuse(3, value not in known)
-        return value
+class Reader(fields.Reader):
+    """Stands in a notice."""
 
     def digits(self, prefix):
         """A digit count and a value, the value a field that can give more refusals than 4."""
-        count = self.ranged(prefix + "count", 1, book.MOST_DIGITS)
-        return book.code_digits(count, self.number(prefix + "value"))
+        count = self.ranged(prefix + "count", 1, codes.MOST_DIGITS)
+        return codes.sent_digits(count, self.number(prefix + "value"), 4)
 
     def country(self):
         digits = self.digits("country ")
-        refuse(5, not book.is_code(digits) or book.country_code(digits) != digits)
+        refuse(5, not codes.is_code(digits) or codes.country_code(digits) != digits)
         return digits
 
     def code(self, country, before):
         digits = self.digits("")
-        refuse(5, not book.is_code(digits))
-        refuse(6, before is not None and book.key(digits) <= book.key(before.digits))
-        refuse(7, country is not None and book.country_code(digits) != country)
+        refuse(5, not codes.is_code(digits))
+        refuse(6, before is not None and codes.key(digits) <= codes.key(before.digits))
+        refuse(7, country is not None and codes.country_code(digits) != country)
         return digits
 
     def offer(self):
-        decimals = self.ranged("decimals", 0, book.MOST_DECIMALS)
-        mantissa = self.ranged("mantissa", 0, book.MOST_MANTISSA)
-        first = self.ranged("first", 1, MOST_SECONDS)
-        following = self.ranged("next", 1, MOST_SECONDS)
-        rate = book.rate(mantissa, decimals)
-        return book.BLOCKED if rate == book.BLOCKED else book.Open(rate, first, following)
+        decimals = self.ranged("decimals", 0, rates.MOST_DECIMALS)
+        mantissa = self.ranged("mantissa", 0, rates.MOST_MANTISSA)
+        first = self.ranged("first", 1, rates.MOST_INCREMENT)
+        following = self.ranged("next", 1, rates.MOST_INCREMENT)
+        rate = rates.rate(mantissa, decimals)
+        return rates.BLOCKED if rate == rates.BLOCKED else rates.Open(rate, first, following)
 
     def status(self):
         status = self.named("status", STATUSES)
         if status == DELETE:
-            return book.CLOSED
-        return book.BLOCKED if status == BLOCK else self.offer()
+            return rates.CLOSED
+        return rates.BLOCKED if status == BLOCK else self.offer()
 
     def listed(self, country, before):
         listed = self.ranged("listed", 0, MOST_LISTED)
@@ -108,43 +74,29 @@ class Reader:
 
     def notice(self):
         kind = self.named("kind", KINDS)
-        received = self.ranged("received", 0, book.LAST_RECEIVED_DAY)
+        received = self.ranged("received", 0, rates.LAST_RECEIVED_DAY)
         country = self.country() if kind == REPLACEMENT else None
         count = self.ranged("lines", 1, MOST_LINES)
-        start = self.at
         lines = []
         for _ in range(count):
             lines.append(self.next_line(country, lines[-1] if lines else None))
-        self.line, self.field = 0, "end"
-        refuse(9, self.at < len(self.data))
-        return Notice(kind, received, country, lines, start)
+        self.end()
+        return Notice(kind, received, country, tuple(lines))
 
 
-def refuse(number, cause):
-    if cause:
-        raise Refused(number)
+@lru_cache(maxsize=4)
+def outcome(data):
+    """The notice in the bytes and None, or None and the cause of its refusal."""
+    reader = Reader(data)
+    return reader.outcome(reader.notice)
 
 
 def read_notice(data):
     """The notice in the bytes; refusal 1 to 9."""
-    return Reader(data).notice()
+    return fields.given(outcome(data))
 
 
-# Writing. A notice is a list of fields, each a name and what is sent for it: a number, written in its shortest form, or bytes,
-# written as they are. So a notice is damaged by sending something else for a field.
-
-
-class Field(NamedTuple):
-    name: str
-    sent: object
-
-    def written(self):
-        return self.sent if isinstance(self.sent, bytes) else book.write_varint(self.sent)
-
-
-def write(fields):
-    """The bytes of a notice."""
-    return b"".join(field.written() for field in fields)
+# Writing.
 
 
 def digit_fields(prefix, digits):
@@ -163,22 +115,10 @@ def line_fields(digits, status, listed=0):
 
 def notice_fields(kind, received, lines, country=None, count=None):
     """A notice's fields: each line is line_fields' arguments, and the number of lines is theirs where none is given."""
-    fields = [Field("kind", kind), Field("received", received)]
+    made = [Field("kind", kind), Field("received", received)]
     if country is not None:
-        fields += digit_fields("country ", country)
-    fields.append(Field("lines", len(lines) if count is None else count))
+        made += digit_fields("country ", country)
+    made.append(Field("lines", len(lines) if count is None else count))
     for line in lines:
-        fields += line_fields(*line)
-    return fields
-
-
-def lengthened(number, groups):
-    """A number in more groups than it needs, the last of them 0."""
-    shortest = book.write_varint(number)
-    filling = [0x80] * (groups - len(shortest) - 1)
-    return bytes([*shortest[:-1], shortest[-1] | 0x80, *filling, 0])
-
-
-def unended(number, groups):
-    """The groups of a number with every top bit set, as if another followed."""
-    return bytes(0x80 | (number >> (7 * i)) & 0x7F for i in range(groups))
+        made += line_fields(*line)
+    return made

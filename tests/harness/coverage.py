@@ -1,0 +1,143 @@
+"""What the cases met: refusal numbers by call, and what must be met besides. Nothing to run here: tests/evidence.py does.
+
+A met thing is a tuple that starts with its call. (call, number) counts refusals, and makes the table; longer ones say more.
+"""
+
+from reference import book, calls, notice
+from reference.notice import FULL, KINDS, PARTIAL, REPLACEMENT, UPDATE
+from reference.rates import BLOCKED, CLOSED, Open
+
+ALL_NUMBERS = [0, *range(1, 11), 20, 21, 22, 23, 30, *range(40, 45)]
+
+# The refusal numbers of each call, after "Order" in document 01; of a batch, the rows apart.
+POSSIBLE = {
+    "fresh": [0, 20, 22],
+    "apply": [0, *range(1, 11), 20, 21, 30],
+    "lookup": [0, 20, 21, 40, 41],
+    "rate_call": [0, 20, 21, *range(40, 45)],
+    "rate_batch": [0, 1, 2, 4, 9, 20, 21, 23],
+    "batch rows": [0, *range(40, 45)],
+    "list": [0, 20, 21, 23, 41, 43],
+}
+
+FIRST, LATER = "first", "later"
+EXACT, MORE = "exact room", "more room"
+STATES = [CLOSED, BLOCKED, "open"]
+LIST_DAYS = [0, 127, 128, 60_000]
+LIST_LINES = [1, 127, 128]
+
+
+# What a call met, beside its refusal number.
+
+
+def state(status):
+    return "open" if isinstance(status, Open) else status
+
+
+def of_book(call, refusal, words):
+    """Why a book was refused."""
+    if refusal == 21:
+        yield call, 21, book.unsound(words)
+
+
+def of_apply(old, data, answer, effect):
+    if answer.refusal == 20:
+        yield "apply", 20, "old" if len(old) < book.HEADER_WORDS else "new"
+    elif answer.refusal in range(1, 10):
+        _, cause = notice.outcome(data)
+        kind = None if cause.field == "kind" else notice.Reader(data).number("kind")
+        yield "apply", cause.number, kind, cause.field, LATER if cause.line > 1 else FIRST
+    elif answer.refusal in (0, 10, 30):
+        yield "apply", answer.refusal, notice.read_notice(data).kind
+    if effect is not None:
+        kind = effect.notice.kind
+        order = "replacement" if kind == REPLACEMENT else "out of sequence" if effect.out_of_sequence else "in sequence"
+        yield "apply", order, kind
+        for digits, change in effect.lines.items():
+            yield "apply", "line", state(change.status), "increase" if digits in effect.increases else "no increase"
+
+
+def of_batch(data, answer, length):
+    read, cause = calls.outcome(data)
+    if answer.refusal in (1, 2, 4):
+        yield "rate_batch", cause.number, cause.field, LATER if cause.line > 1 else FIRST
+    if answer.refusal == 0:
+        yield "rate_batch", EXACT if length == calls.ROW_WORDS * len(read) else MORE
+
+
+def of_list(day, answer, length, data):
+    if answer.refusal == 0:
+        reader = notice.Reader(data)
+        _, _, lines = (reader.number(field) for field in ("kind", "received", "lines"))
+        yield "list", EXACT if answer.length == length else MORE
+        yield "list", "lines", lines if lines in LIST_LINES else "under 128" if lines < 128 else "over 128"
+        yield "list", "day", day if day in LIST_DAYS else "other"
+
+
+# What must be met.
+
+
+def causes():
+    """Each refusal of a notice in each field that can give it: number, kind, field, and whether in a later line."""
+    yield from ((number, None, "kind", FIRST) for number in (1, 2, 3))
+    for kind in KINDS:
+        replaces = kind == REPLACEMENT
+        yield from ((number, kind, field, FIRST) for field in ("received", "lines") for number in (1, 2, 4))
+        if replaces:
+            yield from ((number, kind, "country count", FIRST) for number in (1, 2, 4))
+            yield from ((number, kind, "country value", FIRST) for number in (1, 2, 4, 5))
+        for place in (FIRST, LATER):
+            later = place == LATER
+            yield from ((number, kind, "value", place) for number in (1, 2, 4, 5) + (6,) * later + (7,) * replaces)
+            yield from ((number, kind, "status", place) for number in (1, 2, 3))
+            yield from ((number, kind, "listed", place) for number in (1, 2, 4) + (8,) * (later and replaces))
+            for field in ("count", "decimals", "mantissa", "first", "next"):
+                yield from ((number, kind, field, place) for number in (1, 2, 4))
+        yield 9, kind, "end", FIRST
+
+
+def demanded():
+    """What must be met beside the refusal numbers: all that can be."""
+    yield from (("apply", *cause) for cause in causes())
+    yield from (("apply", number, kind) for number in (0, 10, 30) for kind in KINDS)
+    yield from (("apply", 20, which) for which in ("old", "new"))
+    yield from (("apply", order, kind) for order in ("in sequence", "out of sequence") for kind in (FULL, PARTIAL, UPDATE))
+    yield "apply", "replacement", REPLACEMENT
+    yield from (("apply", "line", state, which) for state in STATES for which in ("increase", "no increase"))
+    with_book = ("apply", "lookup", "rate_call", "rate_batch", "list")
+    yield from ((call, 21, why) for call in with_book for why in book.UNSOUND)
+    yield from (("lookup", "offer", state) for state in STATES)
+    yield from (("rate_batch", number, "calls", FIRST) for number in (1, 2, 4))
+    for field in calls.Sent._fields:
+        yield from (("rate_batch", number, field, place) for number in (1, 2) for place in (FIRST, LATER))
+    yield from ((call, room) for call in ("rate_batch", "list") for room in (EXACT, MORE))
+    yield from (("list", "lines", lines) for lines in (*LIST_LINES, "under 128", "over 128"))
+    yield from (("list", "day", day) for day in (*LIST_DAYS, "other"))
+    yield from (("history", what) for what in ("apply", "lookup", "list"))
+
+
+def faults(covered):
+    """What must be met and was not, and what was met and cannot be."""
+    known = dict.fromkeys(demanded())
+    yield from (f"not met: {', '.join(map(str, each))}" for each in known if each not in covered)
+    yield from (f"cannot be met: {', '.join(map(str, each))}" for each in covered if each not in known)
+
+
+# The table.
+
+
+def table(met):
+    """Rows of how often each call gave each refusal number; a dot where it must not."""
+    width = max(6, *(len(str(count)) + 1 for count in met.values())) if met else 6
+    rows = [" " * 12 + "".join(f"{number:{width}}" for number in ALL_NUMBERS)]
+    for call, possible in POSSIBLE.items():
+        cells = (str(met[call, number]) if number in possible or met[call, number] else "." for number in ALL_NUMBERS)
+        rows.append(f"{call:12}" + "".join(f"{cell:>{width}}" for cell in cells))
+    return rows
+
+
+def table_faults(met):
+    """Refusal numbers that a call must be able to give and did not, and those that it must not give."""
+    known = {(call, number) for call, numbers in POSSIBLE.items() for number in numbers}
+    yield from (f"{call} never gave {number}" for call, number in sorted(known - set(met)))
+    yield from (f"{call} gave {number}, which it must not" for call, number in sorted(set(met) - known))

@@ -1,1 +1,0 @@
-"""The cases of tests/histories.py: replaying, edge cases, random histories. Nothing to run here."""

@@ -1,1 +1,0 @@
-"""The cases of tests/leaf_vectors.py: records, edge cases, random records. Nothing to run here."""
