@@ -4,8 +4,8 @@ use mathlib.Core.Bool.{Bool, true, false, cond, _&&_}
 use mathlib.Core.List.{[], _∷_}
 use Prim.Native.Nat.{ℕ, _+_, _-_, _/_, _%_}
 use lib.Dec.{eqb, leb, ltb}
 use Rattle.dial_code.specs.Key.{key, keysEnd, thirdPlace}
-use Rattle.dial_code.specs.declared.Stretch.{Stretch}
+use Rattle.country_code.specs.declared.Stretch.{Stretch}
 
 -- Whether two words have the same first three places.
 unfoldable pub samePlaces : ℕ → ℕ → Bool

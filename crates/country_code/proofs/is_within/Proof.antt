@@ -1,8 +1,8 @@
 -- is_within meets its contract. Assumes nothing.
 use mathlib.Core.Path.{sym}
 use borrow.Author.Tests.{lt-leb, le-leb}
-use Rattle.dial_code.proofs.is_within.Statement.{statement}
-use Rattle.dial_code.proofs.is_within.Tie as tie
+use Rattle.country_code.proofs.is_within.Statement.{statement}
+use Rattle.country_code.proofs.is_within.Tie as tie
 
 returns : tie.Need-returns
 returns c = sym (rw (lt-leb _ _ (c .if1 .taken)))
