@@ -7,8 +7,8 @@ use Prim.Native.Nat.{ℕ, _≤_, _<_}
 use native.Mathlib.Omega.{arith}
 use lib.Dec.{eqb, leb}
 use Rattle.dial_code.specs.Key.{keysEnd}
-use Rattle.dial_code.specs.Code.{isCodeKey}
-use Rattle.dial_code.proofs.CodeLaws.{beyond-keys}
+use Rattle.country_code.specs.Code.{isCodeKey}
+use Rattle.country_code.proofs.CodeLaws.{beyond-keys}
 use Rattle.dial_code.proofs.Tests.{Order, below, equal, above, order}
 use Rattle.rate.specs.OfferWord.{wordOf}
 use Rattle.rate.specs.declared.Offer.{Offer}

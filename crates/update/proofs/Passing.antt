@@ -7,9 +7,9 @@ use Prim.Native.Nat.{ℕ, _-_, _≤_, _<_}
 use native.Mathlib.Omega.{arith}
 use lib.ListN.{drop}
 use Rattle.dial_code.specs.Key.{key, digitsOfKey}
-use Rattle.dial_code.specs.CountryCode.{countryOfKey}
-use Rattle.dial_code.specs.Code.{isCodeKey}
-use Rattle.dial_code.proofs.CodeLaws.{keyed-code, code-back}
+use Rattle.country_code.specs.CountryCode.{countryOfKey}
+use Rattle.country_code.specs.Code.{isCodeKey}
+use Rattle.country_code.proofs.CodeLaws.{keyed-code, code-back}
 use Rattle.notice.specs.LineRule.{lineAt}
 use Rattle.notice.specs.NoticeRule.{lines, readLines}
 use Rattle.notice.specs.declared.Line.{Line}

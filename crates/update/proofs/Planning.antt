@@ -9,10 +9,10 @@ use lib.Dec.{eqb, ltb}
 use lib.ListN.{length, getD, set, length-set}
 use lib.Seq.{set-out}
 use Rattle.dial_code.specs.Key.{digitsOfKey}
-use Rattle.dial_code.specs.CountryCode.{countryOfKey}
-use Rattle.dial_code.specs.declared.Country.{Country}
-use Rattle.dial_code.specs.declared.Country.the-variants.{Code, None}
-use Rattle.dial_code.proofs.CountryLaws.{same-country}
+use Rattle.country_code.specs.CountryCode.{countryOfKey}
+use Rattle.country_code.specs.declared.Country.{Country}
+use Rattle.country_code.specs.declared.Country.the-variants.{Code, None}
+use Rattle.country_code.proofs.CountryLaws.{same-country}
 use Rattle.rate.specs.OfferWord.{wordOf}
 use Rattle.rate.specs.declared.Rate.{Rate}
 use Rattle.rate.specs.declared.Offer.{Offer}

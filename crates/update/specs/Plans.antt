@@ -7,9 +7,9 @@ use lib.Dec.{eqb, leb, ltb}
 use lib.ListN.{length, getD, drop, set, replicate}
 use lib.Seq.{sets}
 use Rattle.dial_code.specs.Key.{keysEnd}
-use Rattle.dial_code.specs.CountryCode.{countryOfKey}
-use Rattle.dial_code.specs.declared.Country.{Country}
-use Rattle.dial_code.specs.declared.Country.the-variants.{Code, None}
+use Rattle.country_code.specs.CountryCode.{countryOfKey}
+use Rattle.country_code.specs.declared.Country.{Country}
+use Rattle.country_code.specs.declared.Country.the-variants.{Code, None}
 use Rattle.rate.specs.OfferWord.{wordOf}
 use Rattle.rate.specs.declared.Offer.{Offer}
 use Rattle.notice.specs.NoticeRule.{Lines, lines, refused, readLines, full, partial, replacement}

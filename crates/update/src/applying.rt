@@ -4,7 +4,7 @@ ghost use mathlib.Core.Bool.{true};
 ghost use Prim.Native.Nat.{_+_, _*_, _≤_};
 ghost use lib.Dec.{leb};
 ghost use lib.ListN.{length};
-ghost use Rattle.dial_code.specs.CountryCode.{countryOfKey};
+ghost use Rattle.country_code.specs.CountryCode.{countryOfKey};
 ghost use Rattle.notice.specs.NoticeRule.{lines, checkNotice};
 ghost use Rattle.notice.specs.declared.Checked.the-variants.{Notice};
 ghost use Rattle.book.specs.Layout.{held, wordsOf, bookOf, periodOf, latestOf};
@@ -13,7 +13,7 @@ ghost use Rattle.history.specs.Applying.{inBook, refusedApply, applyAnswer, app
 ghost use Rattle.update.specs.Plans.{latestBy, marked, marksOf, marksFor, linesRead, sentLines, mergedBy, stored};
 use crate::Place;
 use crate::Plan;
-use dial_code::Country;
+use country_code::Country;
 use history::Applied;
 use notice::Checked;
 use notice::LineRead;
@@ -142,7 +142,7 @@ fn mark(marks: &mut [u8; 1000], key: u64)
     requires { ⌜ length (now marks) ≤ 1000 ⌝ }
     ensures { λ _. ⌜ now (marks .exit) ≡ marked (countryOfKey key) (now (marks .entry)) ⌝ }
 {
-    if let Country::Code(country) = dial_code::country_of_key(key) {
+    if let Country::Code(country) = country_code::country_of_key(key) {
         if country < 1000 {
             let at = country as usize;
             marks[at] = 1;

@@ -6,7 +6,7 @@ ghost use Rattle.update.specs.Plans.{isMarked, closesBy};
 ghost use Rattle.update.specs.Standing.{AlikeIn, AlikeAnyway};
 use crate::Alike;
 use crate::Plan;
-use dial_code::Country;
+use country_code::Country;
 
 fn is_marked(marks: &[u8; 1000], country: u64) -> bool
     ensures { λ r. ⌜ r ≡ isMarked (now (marks .entry)) country ⌝ }
@@ -26,7 +26,7 @@ pub fn closes(plan: Plan, marks: &[u8; 1000], key: u64) -> bool
         return true;
     }
     if plan.kind == notice::PARTIAL {
-        match dial_code::country_of_key(key) {
+        match country_code::country_of_key(key) {
             Country::Code(country) => {
                 return is_marked(marks, country);
             }
@@ -36,7 +36,7 @@ pub fn closes(plan: Plan, marks: &[u8; 1000], key: u64) -> bool
         }
     }
     if plan.kind == notice::REPLACEMENT {
-        match dial_code::country_of_key(key) {
+        match country_code::country_of_key(key) {
             Country::Code(country) => {
                 return country == plan.country;
             }

@@ -6,7 +6,7 @@ use Prim.Native.Nat.{ℕ, _≤_}
 use native.Mathlib.Omega.{arith}
 use borrow.Author.Needs.{needs}
 use lib.ListN.{length, drop}
-use Rattle.dial_code.specs.CountryCode.{countryOfKey}
+use Rattle.country_code.specs.CountryCode.{countryOfKey}
 use Rattle.notice.specs.NoticeRule.{lines, readLines}
 use Rattle.notice.specs.declared.Line.{Line}
 use Rattle.update.specs.Plans.{marksOf}
