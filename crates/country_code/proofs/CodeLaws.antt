@@ -1,5 +1,5 @@
--- Which words are keys of allowed codes: a word is the key of its digits where no place that holds a digit stands after one
--- that holds none. Assumes nothing.
+-- Which words are keys of allowed codes, by the tests of the code, and that such a word and its code determine each other.
+-- Assumes nothing.
 use mathlib.Core.Path.{_≡_, refl, ap, sym, _∙_}
 use mathlib.Core.Bool.{Bool, true, false, false≢true, cond, _&&_}
 use mathlib.Core.List.{List, _∷_}

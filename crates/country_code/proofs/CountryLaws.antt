@@ -114,7 +114,7 @@ country-none : country [] ≡ None
 unfolding country
 country-none = refl
 
--- From the keys' end on it has none.
+-- From the keys' end on a word has no country.
 pub no-key : (w : ℕ) → keysEnd ≤ w → countryOfKey w ≡ None
 no-key w h = of-digits w (beyond w h) ∙ country-none
 

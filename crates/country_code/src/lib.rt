@@ -71,7 +71,7 @@ pub fn country_of_key(key: u64) -> Country
     Country::Code(two * 10 + (third - 1))
 }
 
-// The words with the first three places of a key, from `low` to below `high`; none where the word is the keys' end or beyond.
+// The words with the first three places of a key; none from the keys' end on.
 pub fn stretch_of(key: u64) -> Stretch
     ensures { λ r. ⌜ r ≡ stretchOf key ⌝ }
 {
@@ -85,6 +85,7 @@ pub fn stretch_of(key: u64) -> Stretch
     }
 }
 
+// Whether a word is in a stretch.
 pub fn is_within(stretch: Stretch, key: u64) -> bool
     ensures { λ r. ⌜ r ≡ isWithin stretch key ⌝ }
 {

@@ -12,8 +12,7 @@ pub const KEYS_END: u64 = 4_177_248_169_415_651;
 pub const FIRST_PLACE: u64 = 379_749_833_583_241;
 
 pub const THIRD_PLACE: u64 = 3_138_428_376_721;
-// Three places read as one number: it is below 11 to the power 3, by which three places move up, and the first of them weighs 11
-// to the power 2.
+// Three places read as one number: 11 to the power 3 moves the next three up, and the first of three weighs 11 to the power 2.
 const THREE_PLACES: u64 = 1_331;
 
 pub const FIRST_OF_THREE: u64 = 121;
