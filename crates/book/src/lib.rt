@@ -6,7 +6,7 @@ ghost use Prim.Native.Nat.{_+_, _*_, _≤_};
 ghost use mathlib.Core.Bool.{true};
 ghost use lib.Dec.{eqb};
 ghost use lib.ListN.{length, drop};
-ghost use Rattle.dial_code.specs.Code.{isCodeKey};
+ghost use Rattle.country_code.specs.Code.{isCodeKey};
 ghost use Rattle.book.specs.Layout.{headerWords, entryWords, countOf, entriesFrom};
 ghost use Rattle.book.specs.Soundness.{isOfferWord, inRange, begins, follows, soundEntries, allZero, soundHeader, headedCount, sound};
 ghost use Rattle.book.specs.Answers.{freshRefusal, freshWords, bookRefusal};
@@ -81,7 +81,7 @@ fn can_begin(e: Entry) -> bool
     if !can_open(e) {
         return false;
     }
-    dial_code::is_code_key(e.key)
+    country_code::is_code_key(e.key)
 }
 
 // Whether one entry can stand after another, which is of an allowed code.
@@ -104,7 +104,7 @@ fn can_follow(e: Entry, f: Entry) -> bool
     if !can_open(f) {
         return false;
     }
-    dial_code::is_code_key_after(e.key, f.key)
+    country_code::is_code_key_after(e.key, f.key)
 }
 
 // Whether the first entries are sound, each read once and held against the one before it.

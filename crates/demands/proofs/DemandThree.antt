@@ -9,8 +9,8 @@ use lib.ListN.{length}
 use Rattle.refusal.specs.Refusal.{bookFull}
 use Rattle.dial_code.specs.Digits.{digitOf, isDialled}
 use Rattle.dial_code.specs.Key.{key}
-use Rattle.dial_code.specs.CountryCode.{country}
-use Rattle.dial_code.specs.declared.Country.the-variants.{None}
+use Rattle.country_code.specs.CountryCode.{country}
+use Rattle.country_code.specs.declared.Country.the-variants.{None}
 use Rattle.rate.specs.Time.{isDay}
 use Rattle.rate.specs.declared.Day.{Day}
 use Rattle.notice.specs.NoticeRule.{Notice, notice, readNotice, full}

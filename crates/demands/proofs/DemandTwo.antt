@@ -6,10 +6,10 @@ use mathlib.Core.List.{List, [], _∷_, _++_, map}
 use Prim.Native.Nat.{ℕ, _+_, _*_, _≤_, _<_}
 use lib.Dec.{leb}
 use lib.ListN.{length, take, drop}
-use Rattle.dial_code.specs.Key.{codeKey}
-use Rattle.dial_code.specs.Code.{isCodeKey, codeOf}
+use Rattle.dial_code.specs.Key.{codeKey, codeOf}
+use Rattle.country_code.specs.Code.{isCodeKey}
 use Rattle.dial_code.specs.declared.Keyed.the-variants.{Key}
-use Rattle.dial_code.proofs.KeyCode as codes
+use Rattle.country_code.proofs.SentBack as codes
 use Rattle.notice.specs.LineRule.{readLine}
 use Rattle.notice.specs.NoticeRule.{Notice, notice, unread, readNotice}
 use Rattle.notice.specs.Layout.{encodeLine, encodeNotice}

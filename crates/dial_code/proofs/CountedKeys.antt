@@ -1,6 +1,5 @@
--- The key of a code sent as a count of digits and a value, one digit at a time from the last, and its country. Assumes nothing.
+-- The key of a code sent as a count of digits and a value, one digit at a time from the last. Assumes nothing.
 use mathlib.Core.Path.{_≡_, ap, sym, _∙_}
-use mathlib.Core.Bool.{true}
 use mathlib.Core.List.{List, [], _∷_, _++_}
 use Prim.Native.Nat.{ℕ, zero, suc, _+_, _-_, _*_, _/_, _%_, _^_, _≤_, _<_}
 use native.Mathlib.Nat.{pow-suc, pow-succ', pow-le-pow-right, one-le-pow}
@@ -10,12 +9,11 @@ use borrow.Author.Tests.{lt-leb, le-leb, lt-ltb, le-ltb}
 use lib.Dec.{lit<}
 use lib.ListN.{length}
 use Rattle.refusal.specs.Refusal.{outOfRange}
-use Rattle.dial_code.specs.Digits.{every, isDigit, digits}
+use Rattle.dial_code.specs.Digits.{digits}
 use Rattle.dial_code.specs.Key.{keyFrom, key, codeKey}
-use Rattle.dial_code.specs.CountryCode.{country, countryOfKey}
 use Rattle.dial_code.specs.declared.Keyed.the-variants.{Key, Refused}
 use Rattle.dial_code.proofs.DigitLaws.{length-digits, digits-last, digits-are}
-use Rattle.dial_code.proofs.KeyLaws.{below-end, digits-back}
+use Rattle.dial_code.proofs.KeyLaws.{below-end}
 use Rattle.dial_code.proofs.Tests.{below, equal, above, order}
 
 key-last : (i d : ℕ) (ds : List ℕ) → keyFrom i (ds ++ (d ∷ [])) ≡ keyFrom i ds + (d + 1) * 11 ^ (15 - (i + length ds))
@@ -104,8 +102,3 @@ pub all-weighed : (k v weighed : ℕ) {total : ℕ} → k ≡ 0 → weighed + ke
 unfolding digits keyFrom
 all-weighed zero v weighed e h = omega arith
 all-weighed (suc k) v weighed e h = absurd (omega arith)
-
--- The country of a code is that of its key.
-pub country-of-key : (ds : List ℕ) → every isDigit ds ≡ true → length ds ≤ 15 → countryOfKey (key ds) ≡ country ds
-unfolding countryOfKey
-country-of-key ds e h = ap country (digits-back ds e h)

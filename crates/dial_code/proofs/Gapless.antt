@@ -6,8 +6,7 @@ use native.Mathlib.Omega.{arith}
 use borrow.Author.Tests.{eq-eqb, ne-eqb, le-leb, lt-leb, ltb-true, ltb-false}
 use lib.Dec.{eqb, leb, ltb}
 use Rattle.dial_code.specs.Key.{firstPlace, thirdPlace, placesOf, isGapless}
-use Rattle.dial_code.proofs.CountryLaws.{places-none}
-use Rattle.dial_code.proofs.CodeLaws.{no-more, one-more}
+use Rattle.dial_code.proofs.Places.{places-none, no-more, one-more}
 
 -- a word without its first place, the places after it moved up
 abbrev up : ℕ → ℕ

@@ -12,9 +12,8 @@ use lib.Pow.{pow-add}
 use lib.Dec.{eqb, ltb, lit<}
 use lib.ListN.{length, take}
 use lib.Seq.{take-all}
-use Rattle.dial_code.specs.Digits.{every, isDigit}
+use Rattle.dial_code.specs.Digits.{every, isDigit, precedes}
 use Rattle.dial_code.specs.Key.{keyFrom, key, keysEnd, firstPlace, placesOf, digitsOfKey, prefixKey}
-use Rattle.dial_code.specs.Code.{precedes}
 use Rattle.dial_code.proofs.DigitLaws.{first-digit, rest-digits}
 use Rattle.dial_code.proofs.Tests.{below, equal, above, order}
 

@@ -1,13 +1,10 @@
--- The laws of digit strings, keys and countries.
+-- The laws of digit strings and keys.
 pub mod Tests
 pub mod DigitLaws
 pub mod KeyLaws
-pub mod CountryLaws
-pub mod StretchLaws
-pub mod CodeLaws
+pub mod Places
 pub mod Gapless
 pub mod KeyCode
 pub mod SentNumbers
 pub mod Spelling
 pub mod CountedKeys
-pub mod SentCodes

@@ -1,7 +1,7 @@
 -- Digit strings: lists of digits 0 to 9, the first digit first. A code is sent as a count of digits and a value (document 01,
 -- "Notice layout"), and a number as ASCII digits, one a byte ("Who can cause a refusal").
 use mathlib.Core.Path.{_≡_, refl}
-use mathlib.Core.Bool.{Bool, true, false, _&&_, not}
+use mathlib.Core.Bool.{Bool, true, false, cond, _&&_, not}
 use mathlib.Core.List.{List, [], _∷_, map}
 use Prim.Native.Nat.{ℕ, zero, suc, _+_, _-_, _*_, _/_, _%_, _^_}
 use lib.ListN.{length}
@@ -53,6 +53,13 @@ unfoldable pub isDialled : List ℕ → Bool
 unfolding isNumber
 isDialled s = every isAscii s && isNumber (map digitOf s)
 
+-- Dictionary order: a digit string stands before its extensions.
+unfoldable pub precedes : List ℕ → List ℕ → Bool
+precedes [] [] = false
+precedes [] (e ∷ es) = true
+precedes (d ∷ ds) [] = false
+precedes (d ∷ ds) (e ∷ es) = cond (ltb d e) true (eqb d e && precedes ds es)
+
 -- leading zeros count as digits
 written :
     digits 5 23480 ∷ digits 3 7 ∷ digits 0 7 ∷ digits 15 999999999999999 ∷ []
@@ -93,3 +100,13 @@ numbers :
     ≡ false ∷ false ∷ true ∷ false ∷ true ∷ false ∷ []
 unfolding isNumber digits
 numbers = refl
+
+order :
+    precedes (1 ∷ []) (1 ∷ 0 ∷ [])
+    ∷ precedes (1 ∷ 9 ∷ []) (2 ∷ [])
+    ∷ precedes (2 ∷ []) (1 ∷ 9 ∷ [])
+    ∷ precedes (3 ∷ []) (3 ∷ [])
+    ∷ []
+    ≡ true ∷ true ∷ false ∷ false ∷ []
+unfolding precedes
+order = refl

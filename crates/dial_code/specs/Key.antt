@@ -4,8 +4,10 @@ use mathlib.Core.Bool.{Bool, true, false, cond, _&&_}
 use mathlib.Core.List.{List, [], _∷_, map}
 use Prim.Native.Nat.{ℕ, zero, suc, _+_, _-_, _*_, _/_, _%_, _^_}
 use lib.Dec.{eqb, ltb}
+use lib.ListN.{length}
 use Rattle.refusal.specs.Refusal.{outOfRange, notANumber}
-use Rattle.dial_code.specs.Digits.{mostDigits, digits, isWritten, isNumber, digitOf, isDialled}
+use Rattle.dial_code.specs.Digits.{mostDigits, digits, value, isWritten, isNumber, digitOf, isDialled}
+use Rattle.dial_code.specs.declared.Code.{Code}
 use Rattle.dial_code.specs.declared.Keyed.{Keyed}
 use Rattle.dial_code.specs.declared.Keyed.the-variants.{Key, Refused}
 
@@ -45,6 +47,11 @@ digitsOfKey w = cond (ltb w keysEnd) (placesOf mostDigits w) []
 unfoldable pub isGapless : ℕ → ℕ → Bool
 unfolding key placesOf
 isGapless k w = eqb (key (placesOf k w)) w
+
+-- The code that a word is the key of, as it is sent: how many digits it has, and their value.
+unfoldable pub codeOf : ℕ → Code
+unfolding digitsOfKey value
+codeOf w = record { count = length (digitsOfKey w); value = value (digitsOfKey w) }
 
 -- The key of a code sent as a count of digits and a value, or that one is outside its range.
 unfoldable pub codeKey : ℕ → ℕ → Keyed
@@ -107,6 +114,17 @@ gapless :
     ≡ true ∷ true ∷ true ∷ true ∷ false ∷ false ∷ false ∷ true ∷ false ∷ []
 unfolding isGapless
 gapless = refl
+
+-- 23480, 007, and words that are no key: 0, and the keys' end
+sent :
+    codeOf (key (2 ∷ 3 ∷ 4 ∷ 8 ∷ 0 ∷ [])) ∷ codeOf (key (0 ∷ 0 ∷ 7 ∷ [])) ∷ codeOf 0 ∷ codeOf keysEnd ∷ []
+    ≡ record { count = 5; value = 23480 }
+    ∷ record { count = 3; value = 7 }
+    ∷ record { count = 0; value = 0 }
+    ∷ record { count = 0; value = 0 }
+    ∷ []
+unfolding codeOf key
+sent = refl
 
 -- code 1, a count of 0 and of 16, a value too large for its count, code 01
 code-keys :

@@ -1,6 +1,3 @@
--- The rules of digit strings, their keys and their countries.
+-- The rules of digit strings and their keys.
 pub mod Digits
 pub mod Key
-pub mod CountryCode
-pub mod Stretches
-pub mod Code

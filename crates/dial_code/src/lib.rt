@@ -1,29 +1,21 @@
-// Digit strings, their keys and their countries (document 01, "Codes and countries").
+// Digit strings and their keys (document 01, "Codes and countries").
 ghost use mathlib.Core.Path.{_≡_};
 ghost use Prim.Native.Nat.{_-_, _≤_, _<_, _^_};
 ghost use Rattle.dial_code.specs.Digits.{mostDigits};
-ghost use Rattle.dial_code.specs.Key.{codeKey, numberKey, sentNumberKey, isGapless};
-ghost use Rattle.dial_code.specs.CountryCode.{countryOfKey, twoDigits};
-ghost use Rattle.dial_code.specs.Code.{isCodeKey, isCodeKeyAfter, sentCodeKey, codeOf};
-ghost use Rattle.dial_code.specs.Stretches.{stretchOf, isWithin};
+ghost use Rattle.dial_code.specs.Key.{codeKey, numberKey, sentNumberKey, codeOf, isGapless};
 
 // At most so many digits.
 pub const MOST_DIGITS: u64 = 15;
 // Every key is below this, 11 to the power 15.
 pub const KEYS_END: u64 = 4_177_248_169_415_651;
 // The weight of a key's first place, 11 to the power 14, and of its third, 11 to the power 12.
-const FIRST_PLACE: u64 = 379_749_833_583_241;
+pub const FIRST_PLACE: u64 = 379_749_833_583_241;
 
 pub const THIRD_PLACE: u64 = 3_138_428_376_721;
-// Three places read as one number: it is below 11 to the power 3, by which three places move up, and the first of them weighs 11
-// to the power 2.
+// Three places read as one number: 11 to the power 3 moves the next three up, and the first of three weighs 11 to the power 2.
 const THREE_PLACES: u64 = 1_331;
 
-const FIRST_OF_THREE: u64 = 121;
-// The country codes of two digits: a bit for each value from 0 to 63, and from 64 on.
-const TWO_DIGITS_LOW: u64 = 0xf7fb_fb97_c810_0000;
-
-const TWO_DIGITS_HIGH: u64 = 0x0000_0004_fc56_0007;
+pub const FIRST_OF_THREE: u64 = 121;
 
 // The key of a digit string, or why it has none.
 pub enum Keyed {
@@ -31,22 +23,10 @@ pub enum Keyed {
     Refused(u64),
 }
 
-// The country of a digit string, as its country code's value; none where the string is too short to have one.
-pub enum Country {
-    Code(u64),
-    None,
-}
-
 // A code as it is sent: how many digits it has, and their value.
 pub struct Code {
     pub count: u64,
     pub value: u64,
-}
-
-// The words from `low` to below `high`.
-pub struct Stretch {
-    pub low: u64,
-    pub high: u64,
 }
 
 fn wide(x: u8) -> u64
@@ -155,26 +135,6 @@ pub fn sent_number_key(count: u64, value: u64) -> Keyed
     }
 }
 
-// The key of an allowed code sent as a count of digits and a value; refusal 4 where one is outside its range, 5 where the digits
-// are no allowed code.
-pub fn sent_code_key(count: u64, value: u64) -> Keyed
-    ensures { λ r. ⌜ r ≡ sentCodeKey count value ⌝ }
-{
-    match code_key(count, value) {
-        Keyed::Refused(e) => Keyed::Refused(e),
-        Keyed::Key(key) => {
-            // The first place holds the digit 0.
-            if key < 2 * FIRST_PLACE {
-                return Keyed::Refused(refusal::CODE_NOT_ALLOWED);
-            }
-            match country_of_key(key) {
-                Country::None => Keyed::Refused(refusal::CODE_NOT_ALLOWED),
-                Country::Code(_) => Keyed::Key(key),
-            }
-        }
-    }
-}
-
 // The count of digits and the value of the code that a word is the key of.
 pub fn key_code(key: u64) -> Code
     ensures { λ r. ⌜ r ≡ codeOf key ⌝ }
@@ -203,75 +163,8 @@ pub fn key_code(key: u64) -> Code
     }
 }
 
-// Whether a value below 100 is a country code of two digits.
-fn is_two_digits(v: u64) -> bool
-    requires { ⌜ v < 100 ⌝ }
-    ensures { λ r. ⌜ r ≡ twoDigits v ⌝ }
-{
-    if v < 64 {
-        return (TWO_DIGITS_LOW >> v) % 2 == 1;
-    }
-    (TWO_DIGITS_HIGH >> (v - 64)) % 2 == 1
-}
-
-// The country of the code that a word is the key of.
-pub fn country_of_key(key: u64) -> Country
-    ensures { λ r. ⌜ r ≡ countryOfKey key ⌝ }
-{
-    if KEYS_END <= key {
-        return Country::None;
-    }
-    let places = key / THIRD_PLACE;
-    let first = places / FIRST_OF_THREE;
-    let second = places / 11 % 11;
-    let third = places % 11;
-    if first == 0 {
-        return Country::None;
-    }
-    if first == 2 {
-        return Country::Code(1);
-    }
-    if first == 8 {
-        return Country::Code(7);
-    }
-    if second == 0 {
-        return Country::None;
-    }
-    let two = (first - 1) * 10 + (second - 1);
-    if is_two_digits(two) {
-        return Country::Code(two);
-    }
-    if third == 0 {
-        return Country::None;
-    }
-    Country::Code(two * 10 + (third - 1))
-}
-
-// The words with the first three places of a key, from `low` to below `high`; none where the word is the keys' end or beyond.
-pub fn stretch_of(key: u64) -> Stretch
-    ensures { λ r. ⌜ r ≡ stretchOf key ⌝ }
-{
-    if KEYS_END <= key {
-        return Stretch { low: 0, high: 0 };
-    }
-    let low = key - key % THIRD_PLACE;
-    Stretch {
-        low,
-        high: low + THIRD_PLACE,
-    }
-}
-
-pub fn is_within(stretch: Stretch, key: u64) -> bool
-    ensures { λ r. ⌜ r ≡ isWithin stretch key ⌝ }
-{
-    if key < stretch.low {
-        return false;
-    }
-    key < stretch.high
-}
-
 // Whether no place of a word that holds a digit stands after one that holds none. Three places are read at a time.
-fn is_gapless(word: u64) -> bool
+pub fn is_gapless(word: u64) -> bool
     ensures { λ r. ⌜ r ≡ isGapless mostDigits word ⌝ }
 {
     let mut rest = word;
@@ -299,31 +192,4 @@ fn is_gapless(word: u64) -> bool
         left -= 1;
     }
     rest == 0
-}
-
-// Whether a word is the key of an allowed code.
-pub fn is_code_key(word: u64) -> bool
-    ensures { λ r. ⌜ r ≡ isCodeKey word ⌝ }
-{
-    if KEYS_END <= word {
-        return false;
-    }
-    // The first place holds no digit, or the digit 0.
-    if word < 2 * FIRST_PLACE {
-        return false;
-    }
-    match country_of_key(word) {
-        Country::Code(_) => is_gapless(word),
-        Country::None => false,
-    }
-}
-
-// Whether a word is the key of an allowed code, told after the key of one: with its first three places the word has its country.
-pub fn is_code_key_after(key: u64, word: u64) -> bool
-    ensures { λ r. ⌜ r ≡ isCodeKeyAfter key word ⌝ }
-{
-    if key / THIRD_PLACE == word / THIRD_PLACE {
-        return is_gapless(word);
-    }
-    is_code_key(word)
 }

@@ -9,11 +9,11 @@ use borrow.Author.Tests.{lt-ltb, le-ltb, eq-eqb, ne-eqb, ltb-true, eqb-true, eqb
 use lib.Dec.{eqb, leb, ltb}
 use lib.ListN.{getD}
 use Rattle.dial_code.specs.Key.{keysEnd}
-use Rattle.dial_code.specs.CountryCode.{countryOfKey}
-use Rattle.dial_code.specs.Stretches.{isWithin, stretchOf}
-use Rattle.dial_code.specs.declared.Country.{Country}
-use Rattle.dial_code.specs.declared.Country.the-variants.{Code, None}
-use Rattle.dial_code.proofs.StretchLaws.{one-country}
+use Rattle.country_code.specs.CountryCode.{countryOfKey}
+use Rattle.country_code.specs.Stretches.{isWithin, stretchOf}
+use Rattle.country_code.specs.declared.Country.{Country}
+use Rattle.country_code.specs.declared.Country.the-variants.{Code, None}
+use Rattle.country_code.proofs.StretchLaws.{one-country}
 use Rattle.dial_code.proofs.Tests.{both}
 use Rattle.notice.specs.NoticeRule.{full, partial, update, replacement}
 use Rattle.effect.specs.Closings.{isMarked, closesIn, closesBy, range, closedAnyway, closedRange}

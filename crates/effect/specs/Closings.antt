@@ -7,10 +7,10 @@ use Prim.Native.Nat.{ℕ}
 use lib.Dec.{eqb, ltb}
 use lib.ListN.{getD}
 use Rattle.dial_code.specs.Key.{key, keysEnd}
-use Rattle.dial_code.specs.CountryCode.{countryOfKey}
-use Rattle.dial_code.specs.Stretches.{stretchOf}
-use Rattle.dial_code.specs.declared.Country.{Country}
-use Rattle.dial_code.specs.declared.Country.the-variants.{Code, None}
+use Rattle.country_code.specs.CountryCode.{countryOfKey}
+use Rattle.country_code.specs.Stretches.{stretchOf}
+use Rattle.country_code.specs.declared.Country.{Country}
+use Rattle.country_code.specs.declared.Country.the-variants.{Code, None}
 use Rattle.notice.specs.NoticeRule.{full, partial, update, replacement}
 use Rattle.effect.specs.declared.ClosedRange.{ClosedRange}
 use Rattle.effect.specs.declared.Plan.{Plan}

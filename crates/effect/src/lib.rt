@@ -4,8 +4,8 @@ ghost use Prim.Native.Nat.{max};
 ghost use Rattle.effect.specs.Lines.{foundIn, raises, effectiveBy, changeBy};
 ghost use Rattle.effect.specs.Closings.{isMarked, closesBy, closedAnyway, closedRange};
 use book::Entry;
-use dial_code::Country;
-use dial_code::Stretch;
+use country_code::Country;
+use country_code::Stretch;
 use notice::Line;
 use rate::Offer;
 
@@ -104,7 +104,7 @@ fn closes(plan: Plan, marks: &[u8; 1000], key: u64) -> bool
         return true;
     }
     if plan.kind == notice::PARTIAL {
-        match dial_code::country_of_key(key) {
+        match country_code::country_of_key(key) {
             Country::Code(country) => {
                 return is_marked(marks, country);
             }
@@ -114,7 +114,7 @@ fn closes(plan: Plan, marks: &[u8; 1000], key: u64) -> bool
         }
     }
     if plan.kind == notice::REPLACEMENT {
-        match dial_code::country_of_key(key) {
+        match country_code::country_of_key(key) {
             Country::Code(country) => {
                 return country == plan.country;
             }
@@ -159,6 +159,6 @@ pub fn closed_range(plan: Plan, marks: &[u8; 1000], key: u64) -> ClosedRange
     ensures { λ r. ⌜ r ≡ closedRange plan (now (marks .entry)) key ⌝ }
 {
     let closed = closes(plan, marks, key);
-    let keys = dial_code::stretch_of(key);
+    let keys = country_code::stretch_of(key);
     ClosedRange { keys, closed }
 }

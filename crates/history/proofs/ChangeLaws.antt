@@ -8,9 +8,9 @@ use native.Mathlib.Omega.{arith}
 use borrow.Author.Tests.{eqb-true, eqb-false}
 use lib.Dec.{eqb}
 use Rattle.dial_code.specs.Key.{keysEnd}
-use Rattle.dial_code.specs.Code.{isCodeKey}
+use Rattle.country_code.specs.Code.{isCodeKey}
 use Rattle.dial_code.proofs.Tests.{below, equal, above, order}
-use Rattle.dial_code.proofs.CodeLaws.{beyond-keys}
+use Rattle.country_code.proofs.CodeLaws.{beyond-keys}
 use Rattle.book.specs.Layout.{entry}
 use Rattle.book.specs.Soundness.{isOfferWord, soundEntries}
 use Rattle.book.specs.Status.{statusFrom, statusIn}

@@ -12,9 +12,9 @@ use lib.ListN.{length}
 use Rattle.refusal.specs.Refusal.{bookFull}
 use Rattle.dial_code.specs.Digits.{digitOf, isDialled}
 use Rattle.dial_code.specs.Key.{key}
-use Rattle.dial_code.specs.CountryCode.{country}
-use Rattle.dial_code.specs.declared.Country.the-variants.{None}
-use Rattle.dial_code.proofs.CountedKeys.{country-of-key}
+use Rattle.country_code.specs.CountryCode.{country}
+use Rattle.country_code.specs.declared.Country.the-variants.{None}
+use Rattle.country_code.proofs.CountryLaws.{country-of-key}
 use Rattle.dial_code.proofs.DigitLaws.{dialled-digits}
 use Rattle.rate.specs.declared.Day.{Day}
 use Rattle.notice.specs.NoticeRule.{Notice, notice, readNotice, full}

@@ -12,13 +12,13 @@ use lib.ListN.{length, take, length-take}
 use lib.Seq.{take-take}
 use Rattle.dial_code.specs.Digits.{every, isDigit, digitOf, isDialled, value}
 use Rattle.dial_code.specs.Key.{key}
-use Rattle.dial_code.specs.CountryCode.{oneDigit, countryDigits, country, countryOfKey}
-use Rattle.dial_code.specs.declared.Country.{Country}
-use Rattle.dial_code.specs.declared.Country.the-variants.{Code, None}
+use Rattle.country_code.specs.CountryCode.{oneDigit, countryDigits, country, countryOfKey}
+use Rattle.country_code.specs.declared.Country.{Country}
+use Rattle.country_code.specs.declared.Country.the-variants.{Code, None}
 use Rattle.dial_code.proofs.Tests.{both, and-left-true}
 use Rattle.dial_code.proofs.DigitLaws.{dialled-digits}
-use Rattle.dial_code.proofs.CountedKeys.{country-of-key}
-use Rattle.dial_code.proofs.CodeLaws.{without-country}
+use Rattle.country_code.proofs.CountryLaws.{country-of-key}
+use Rattle.country_code.proofs.CodeLaws.{without-country}
 use Rattle.rate.specs.Time.{isDay}
 use Rattle.rate.specs.declared.Day.{Day}
 use Rattle.rate.specs.declared.Offer.the-variants.{Closed}

@@ -1,4 +1,5 @@
--- The headline laws of the three leaf crates, a file for each.
+-- The headline laws of the leaf crates, a file for each.
 pub mod Varint
 pub mod DialCode
+pub mod CountryCode
 pub mod Rates

@@ -9,7 +9,7 @@ use lib.ListN.{length, length-append}
 use Rattle.varint.specs.Several.{encodeAll, encodableAll, sizeOfAll}
 use Rattle.varint.proofs.Laws.{size-below}
 use Rattle.varint.proofs.Several.{all-nil, all-sized, bytes-nil, length-bytes-cons}
-use Rattle.dial_code.specs.Code.{codeOf}
+use Rattle.dial_code.specs.Key.{codeOf}
 use Rattle.rate.specs.OfferWord.{offerOf, inRange}
 use Rattle.rate.specs.declared.Offer.{Offer}
 use Rattle.rate.specs.declared.Offer.the-variants.{Closed, Blocked, Open}

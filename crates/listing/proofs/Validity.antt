@@ -10,7 +10,7 @@ use borrow.Author.Tests.{leb-true, eqb-false, not-true, leb-false}
 use lib.Dec.{eqb, leb}
 use lib.ListN.{length}
 use Rattle.dial_code.proofs.Tests.{both, and-left-true, positive}
-use Rattle.dial_code.proofs.CodeLaws.{no-first-digit}
+use Rattle.country_code.proofs.CodeLaws.{no-first-digit}
 use Rattle.rate.specs.Time.{lastReceivedDay}
 use Rattle.notice.proofs.LineLaws.{ValidLine}
 use Rattle.notice.proofs.LinesLaws.{ValidFrom}

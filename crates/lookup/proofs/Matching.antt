@@ -16,8 +16,9 @@ use Rattle.dial_code.specs.Key.{key, prefixKey, keysEnd, digitsOfKey}
 use Rattle.dial_code.proofs.Tests.{below, equal, above, order}
 use Rattle.dial_code.proofs.KeyLaws.{key-take, whole}
 use Rattle.dial_code.proofs.CountedKeys.{next-weight}
-use Rattle.dial_code.proofs.CountryLaws.{beyond, all-places}
-use Rattle.dial_code.proofs.CodeLaws.{length-places, digits-places, no-first-digit}
+use Rattle.dial_code.proofs.Places.{beyond, all-places}
+use Rattle.dial_code.proofs.Places.{length-places, digits-places}
+use Rattle.country_code.proofs.CodeLaws.{no-first-digit}
 use Rattle.rate.specs.OfferWord.{offerOf}
 use Rattle.rate.specs.declared.Offer.{Offer}
 use Rattle.rate.specs.declared.Offer.the-variants.{Closed, Blocked, Open}

@@ -133,7 +133,7 @@ fn pass_unlisted(
             return Place { at, left, count };
         }
         let keys = alike.keys;
-        if !dial_code::is_within(keys, e.key) {
+        if !country_code::is_within(keys, e.key) {
             alike = effect::closed_range(plan, marks, e.key);
         }
         at += book::ENTRY_WORDS;

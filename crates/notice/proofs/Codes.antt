@@ -13,17 +13,18 @@ use Rattle.refusal.specs.Refusal.{outOfRange, codeNotAllowed, keysNotRising, ou
 use Rattle.varint.specs.declared.Number.the-variants.{Value, Refused}
 use Rattle.dial_code.specs.Digits.{every, isDigit, digits, value, isWritten, isNumber}
 use Rattle.dial_code.specs.Key.{key, digitsOfKey, codeKey}
-use Rattle.dial_code.specs.CountryCode.{countryDigits, country, countryOfKey}
-use Rattle.dial_code.specs.Code.{isCode, isCodeKey, sentCodeKey}
-use Rattle.dial_code.specs.declared.Country.{Country}
-use Rattle.dial_code.specs.declared.Country.the-variants.{Code, None}
+use Rattle.country_code.specs.CountryCode.{countryDigits, country, countryOfKey}
+use Rattle.country_code.specs.Code.{isCode, isCodeKey, sentCodeKey}
+use Rattle.country_code.specs.declared.Country.{Country}
+use Rattle.country_code.specs.declared.Country.the-variants.{Code, None}
 use Rattle.dial_code.specs.declared.Keyed.the-variants as keyed
 use Rattle.dial_code.proofs.Tests.{both, and-left-true, same-eqb, below, equal, above, order}
 use Rattle.dial_code.proofs.DigitLaws.{length-digits, digits-are, value-digits, value-below, number-facts, no-digits, zero-first}
 use Rattle.dial_code.proofs.KeyLaws.{digits-back}
-use Rattle.dial_code.proofs.CountedKeys.{large, sent, country-of-key}
+use Rattle.dial_code.proofs.CountedKeys.{large, sent}
+use Rattle.country_code.proofs.CountryLaws.{country-of-key}
 use Rattle.dial_code.proofs.SentNumbers.{code-test}
-use Rattle.dial_code.proofs.SentCodes.{sent-test}
+use Rattle.country_code.proofs.SentCodes.{sent-test}
 use Rattle.notice.specs.LineRule.{isCountry, codeField}
 use Rattle.notice.specs.NoticeRule.{isCountryCode, countryField}
 use Rattle.notice.proofs.Links.{yes-case, no-case}

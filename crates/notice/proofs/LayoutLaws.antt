@@ -5,7 +5,7 @@ use Prim.Native.Nat.{ℕ}
 use borrow.Author.Tests.{eq-eqb, ne-eqb}
 use lib.ListN.{length}
 use Rattle.varint.specs.Several.{encodeAll}
-use Rattle.dial_code.specs.Code.{codeOf}
+use Rattle.dial_code.specs.Key.{codeOf}
 use Rattle.dial_code.specs.declared.Code.{Code}
 use Rattle.rate.specs.declared.Offer.{Offer}
 use Rattle.notice.specs.Layout.{offerFields, lineFields, countryCount, headerFields}

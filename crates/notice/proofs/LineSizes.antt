@@ -10,7 +10,7 @@ use Rattle.varint.specs.Writing.{sizeOf}
 use Rattle.varint.specs.Several.{encodableAll, encodeAll, sizeOfAll}
 use Rattle.varint.proofs.Outcome.{no-size, some-size}
 use Rattle.varint.proofs.Several.{all-nil, all-sized, none-all, last-large, sized, one-byte, bytes-nil, length-bytes-cons}
-use Rattle.dial_code.specs.Code.{codeOf}
+use Rattle.dial_code.specs.Key.{codeOf}
 use Rattle.notice.specs.Layout.{offerFields, lineFields}
 use Rattle.notice.specs.declared.Line.{Line}
 use Rattle.notice.proofs.LayoutLaws.{line-opens}

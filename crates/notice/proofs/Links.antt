@@ -8,8 +8,8 @@ use borrow.Author.Tests.{eqb-true}
 use Rattle.varint.specs.declared.Number.{Number}
 use Rattle.varint.specs.declared.Number.the-variants.{Value, Refused}
 use Rattle.rate.specs.declared.Offer.{Offer}
-use Rattle.dial_code.specs.declared.Country.{Country}
-use Rattle.dial_code.specs.declared.Country.the-variants.{Code, None}
+use Rattle.country_code.specs.declared.Country.{Country}
+use Rattle.country_code.specs.declared.Country.the-variants.{Code, None}
 use Rattle.notice.specs.Field.{andThen}
 use Rattle.notice.specs.LineRule.{isCountry, withTerms}
 use Rattle.notice.specs.declared.LineRead.{LineRead}

@@ -4,8 +4,8 @@ use mathlib.Core.List.{List}
 use Prim.Native.Nat.{ℕ, _≤_, _<_}
 use native.Mathlib.Omega.{arith}
 use lib.ListN.{length, getD, drop}
-use Rattle.dial_code.specs.CountryCode.{countryOfKey}
-use Rattle.dial_code.specs.declared.Country.the-variants.{Code}
+use Rattle.country_code.specs.CountryCode.{countryOfKey}
+use Rattle.country_code.specs.declared.Country.the-variants.{Code}
 use Rattle.notice.specs.NoticeRule.{Lines, lines, refused, readLines, Notice, Reading, notice, unread, withHeader, withLines, readHeader, readNotice}
 use Rattle.notice.specs.declared.Line.{Line}
 use Rattle.notice.specs.declared.Header.{Header}

@@ -12,11 +12,11 @@ use lib.ListN.{length}
 use Rattle.varint.specs.Several.{encodableAll, sizeOfAll}
 use Rattle.varint.proofs.Several.{all-nil, all-cons, all-sized}
 use Rattle.dial_code.specs.Key.{keysEnd, placesOf}
-use Rattle.dial_code.specs.Code.{codeOf}
+use Rattle.dial_code.specs.Key.{codeOf}
 use Rattle.dial_code.proofs.Tests.{below, equal, above, order}
 use Rattle.dial_code.proofs.DigitLaws.{value-below}
-use Rattle.dial_code.proofs.CountryLaws.{all-places}
-use Rattle.dial_code.proofs.CodeLaws.{length-places, digits-places}
+use Rattle.dial_code.proofs.Places.{all-places}
+use Rattle.dial_code.proofs.Places.{length-places, digits-places}
 use Rattle.dial_code.proofs.KeyCode.{code-opens, no-code}
 use Rattle.rate.specs.OfferWord.{inRange}
 use Rattle.rate.specs.declared.Offer.{Offer}

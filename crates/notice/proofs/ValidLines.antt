@@ -5,8 +5,8 @@ use mathlib.Core.Logic.{⊎-elim}
 use Prim.Native.Nat.{ℕ, zero, suc, _<_}
 use native.Mathlib.Omega.{arith}
 use lib.ListN.{length, getD}
-use Rattle.dial_code.specs.CountryCode.{countryOfKey}
-use Rattle.dial_code.specs.declared.Country.the-variants.{Code}
+use Rattle.country_code.specs.CountryCode.{countryOfKey}
+use Rattle.country_code.specs.declared.Country.the-variants.{Code}
 use Rattle.notice.specs.declared.Line.{Line}
 use Rattle.notice.proofs.LineLaws.{ValidLine}
 use Rattle.notice.proofs.LinesLaws.{ValidFrom}

@@ -9,8 +9,9 @@ use Rattle.varint.specs.Reading.{readNumber}
 use Rattle.varint.specs.Several.{encodeAll}
 use Rattle.dial_code.specs.Digits.{digits}
 use Rattle.dial_code.specs.Key.{key}
-use Rattle.dial_code.specs.CountryCode.{country}
-use Rattle.dial_code.specs.Code.{isCode, codeOf}
+use Rattle.country_code.specs.CountryCode.{country}
+use Rattle.dial_code.specs.Key.{codeOf}
+use Rattle.country_code.specs.Code.{isCode}
 use Rattle.rate.specs.Price.{rate, priceOf}
 use Rattle.rate.specs.declared.Offer.{Offer}
 use Rattle.rate.specs.declared.Offer.the-variants.{Closed, Blocked, Open}

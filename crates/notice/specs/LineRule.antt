@@ -12,10 +12,10 @@ use Rattle.varint.specs.declared.Number.{Number}
 use Rattle.varint.specs.declared.Number.the-variants.{Value, Refused}
 use Rattle.dial_code.specs.Digits.{mostDigits, digits}
 use Rattle.dial_code.specs.Key.{key}
-use Rattle.dial_code.specs.CountryCode.{country}
-use Rattle.dial_code.specs.Code.{isCode}
-use Rattle.dial_code.specs.declared.Country.{Country}
-use Rattle.dial_code.specs.declared.Country.the-variants.{Code, None}
+use Rattle.country_code.specs.CountryCode.{country}
+use Rattle.country_code.specs.Code.{isCode}
+use Rattle.country_code.specs.declared.Country.{Country}
+use Rattle.country_code.specs.declared.Country.the-variants.{Code, None}
 use Rattle.rate.specs.Time.{lastDay}
 use Rattle.rate.specs.Price.{rate, mostDecimals, mostMantissa, priceOf}
 use Rattle.rate.specs.declared.Priced.{Priced}

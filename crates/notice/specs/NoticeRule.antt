@@ -12,8 +12,8 @@ use Rattle.varint.specs.declared.Number.{Number}
 use Rattle.varint.specs.declared.Number.the-variants.{Value, Refused}
 use Rattle.dial_code.specs.Digits.{mostDigits, digits}
 use Rattle.dial_code.specs.Key.{key}
-use Rattle.dial_code.specs.CountryCode.{countryDigits, country}
-use Rattle.dial_code.specs.Code.{isCode}
+use Rattle.country_code.specs.CountryCode.{countryDigits, country}
+use Rattle.country_code.specs.Code.{isCode}
 use Rattle.rate.specs.Time.{lastDay, lastReceivedDay}
 use Rattle.rate.specs.Price.{rate, priceOf}
 use Rattle.rate.specs.declared.Offer.the-variants.{Open}

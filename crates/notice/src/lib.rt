@@ -2,7 +2,7 @@
 ghost use mathlib.Core.Path.{_≡_};
 ghost use Prim.Native.Nat.{_≤_, _-_, min};
 ghost use lib.ListN.{length, drop};
-ghost use Rattle.dial_code.specs.CountryCode.{countryOfKey};
+ghost use Rattle.country_code.specs.CountryCode.{countryOfKey};
 ghost use Rattle.notice.specs.Field.{inRange, readRanged};
 ghost use Rattle.notice.specs.LineRule.{isCountry, codeField, readCode, readListed, readLine, lineAt};
 ghost use Rattle.notice.specs.NoticeRule.{countryField, readCountry, readNamed, readDated, readHeader, readLines, scanned, checkNotice};
@@ -11,7 +11,7 @@ mod leading;
 mod pricing;
 mod write;
 
-use dial_code::Country;
+use country_code::Country;
 use dial_code::Keyed;
 pub use leading::leading_fields;
 use rate::Day;
@@ -119,7 +119,7 @@ pub fn read_ranged(s: &[u8], at: usize, least: u64, most: u64) -> Number
 fn lies_in(key: u64, named: u64) -> bool
     ensures { λ r. ⌜ r ≡ isCountry (countryOfKey key) named ⌝ }
 {
-    match dial_code::country_of_key(key) {
+    match country_code::country_of_key(key) {
         Country::Code(c) => c == named,
         Country::None => false,
     }
@@ -130,7 +130,7 @@ fn code_field(named: u64, before: u64, count: u64, value: u64, next: usize) -> N
     requires { ⌜ (1 ≤ count) × (count ≤ 15) ⌝ }
     ensures { λ r. ⌜ r ≡ codeField named before count value next ⌝ }
 {
-    match dial_code::sent_code_key(count, value) {
+    match country_code::sent_code_key(count, value) {
         Keyed::Refused(e) => Number::Refused(e),
         Keyed::Key(key) => {
             if key <= before {
@@ -228,7 +228,7 @@ fn country_field(count: u64, value: u64, end: usize) -> Number
     match dial_code::code_key(count, value) {
         Keyed::Refused(e) => Number::Refused(e),
         Keyed::Key(key) => {
-            if !dial_code::is_code_key(key) {
+            if !country_code::is_code_key(key) {
                 return Number::Refused(refusal::CODE_NOT_ALLOWED);
             }
             if lies_in(key, value) {

@@ -12,9 +12,9 @@ use lib.ListN.{length, getD, set, take, length-take, length-replicate, getD-repl
 use lib.Seq.{getD-set-same, getD-set-other}
 use Rattle.dial_code.specs.Digits.{every, isDigit, value}
 use Rattle.dial_code.specs.Key.{digitsOfKey}
-use Rattle.dial_code.specs.CountryCode.{oneDigit, twoDigits, countryDigits, country, countryOfKey}
-use Rattle.dial_code.specs.declared.Country.{Country}
-use Rattle.dial_code.specs.declared.Country.the-variants.{Code, None}
+use Rattle.country_code.specs.CountryCode.{oneDigit, twoDigits, countryDigits, country, countryOfKey}
+use Rattle.country_code.specs.declared.Country.{Country}
+use Rattle.country_code.specs.declared.Country.the-variants.{Code, None}
 use Rattle.dial_code.proofs.Tests.{both, and-left-true}
 use Rattle.dial_code.proofs.DigitLaws.{value-below}
 use Rattle.lookup.proofs.Matching.{word-digits}

@@ -5,9 +5,9 @@ use mathlib.Core.List.{List, [], _∷_}
 use Prim.Native.Nat.{ℕ, _+_, max}
 use lib.Dec.{eqb, ltb}
 use lib.ListN.{set, replicate}
-use Rattle.dial_code.specs.CountryCode.{countryOfKey}
-use Rattle.dial_code.specs.declared.Country.{Country}
-use Rattle.dial_code.specs.declared.Country.the-variants.{Code, None}
+use Rattle.country_code.specs.CountryCode.{countryOfKey}
+use Rattle.country_code.specs.declared.Country.{Country}
+use Rattle.country_code.specs.declared.Country.the-variants.{Code, None}
 use Rattle.notice.specs.NoticeRule.{partial, replacement}
 use Rattle.notice.specs.declared.Line.{Line}
 use Rattle.notice.specs.declared.Summary.{Summary}

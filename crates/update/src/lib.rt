@@ -5,7 +5,7 @@ ghost use mathlib.Core.Bool.{true};
 ghost use Prim.Native.Nat.{_+_, _*_, _≤_};
 ghost use lib.Dec.{leb};
 ghost use lib.ListN.{length};
-ghost use Rattle.dial_code.specs.CountryCode.{countryOfKey};
+ghost use Rattle.country_code.specs.CountryCode.{countryOfKey};
 ghost use Rattle.rate.specs.Time.{lastReceivedDay};
 ghost use Rattle.notice.specs.NoticeRule.{mostLines, checkNotice};
 ghost use Rattle.notice.specs.declared.Checked.the-variants.{Notice};
@@ -17,7 +17,7 @@ ghost use Rattle.merge.specs.Lines.{linesAt};
 ghost use Rattle.merge.specs.Merge.{mergedBy};
 ghost use Rattle.update.specs.Plans.{planOf, marked, marksOf, marksFor};
 use book::Header;
-use dial_code::Country;
+use country_code::Country;
 use effect::Plan;
 use history::Applied;
 use merge::Merged;
@@ -111,7 +111,7 @@ fn mark(marks: &mut [u8; 1000], key: u64)
     requires { ⌜ length (now marks) ≤ 1000 ⌝ }
     ensures { λ _. ⌜ now (marks .exit) ≡ marked (countryOfKey key) (now (marks .entry)) ⌝ }
 {
-    if let Country::Code(country) = dial_code::country_of_key(key) {
+    if let Country::Code(country) = country_code::country_of_key(key) {
         if country < 1000 {
             let at = country as usize;
             marks[at] = 1;

@@ -10,7 +10,7 @@ use Rattle.refusal.specs.Refusal.{bookFull}
 use Rattle.varint.specs.Reading.{readNumber}
 use Rattle.dial_code.specs.Digits.{digitOf, isDialled}
 use Rattle.dial_code.specs.Key.{key, digitsOfKey}
-use Rattle.dial_code.specs.CountryCode.{country, countryOfKey}
+use Rattle.country_code.specs.CountryCode.{country, countryOfKey}
 use Rattle.rate.specs.Price.{rate}
 use Rattle.rate.specs.declared.Day.{Day}
 use Rattle.rate.specs.Charging.{chargeOf}

@@ -9,8 +9,8 @@ use lib.Dec.{eqb, leb}
 use Rattle.varint.specs.Reading.{readNumber}
 use Rattle.dial_code.specs.Digits.{digits}
 use Rattle.dial_code.specs.Key.{key, digitsOfKey}
-use Rattle.dial_code.specs.CountryCode.{country, countryOfKey}
-use Rattle.dial_code.specs.Code.{isCode, isCodeKey}
+use Rattle.country_code.specs.CountryCode.{country, countryOfKey}
+use Rattle.country_code.specs.Code.{isCode, isCodeKey}
 use Rattle.rate.specs.Price.{rate, priceOf}
 use Rattle.rate.specs.OfferWord.{wordOf, offerOf}
 use Rattle.rate.specs.declared.Offer.{Offer}

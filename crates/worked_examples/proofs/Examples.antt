@@ -8,8 +8,8 @@ use Rattle.varint.specs.declared.Number.{Number}
 use Rattle.varint.specs.declared.Number.the-variants.{Value, Refused}
 use Rattle.dial_code.specs.Digits.{digits}
 use Rattle.dial_code.specs.Key.{key, digitsOfKey}
-use Rattle.dial_code.specs.CountryCode.{country, countryOfKey}
-use Rattle.dial_code.specs.Code.{isCode}
+use Rattle.country_code.specs.CountryCode.{country, countryOfKey}
+use Rattle.country_code.specs.Code.{isCode}
 use Rattle.rate.specs.Price.{rate, priceOf}
 use Rattle.rate.specs.OfferWord.{wordOf}
 use Rattle.rate.specs.Charging.{chargeOf}

@@ -7,7 +7,7 @@ use lib.Dec.{eqb, ltb}
 use Rattle.notice.proofs.Links.{yes-case, no-case, or-left, or-right}
 use Rattle.varint.specs.declared.Number.the-variants.{Value, Refused}
 use Rattle.notice.specs.LineRule.{isCountry, codeField}
-use Rattle.dial_code.specs.CountryCode.{countryOfKey}
+use Rattle.country_code.specs.CountryCode.{countryOfKey}
 use Rattle.notice.proofs.Codes.{sent-code-tests, sent-code-refused}
 use Rattle.notice.proofs.code_field.Statement.{statement}
 use Rattle.notice.proofs.code_field.Tie as tie

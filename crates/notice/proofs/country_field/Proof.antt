@@ -7,8 +7,8 @@ use Rattle.notice.proofs.Links.{yes-case, no-case}
 use Rattle.varint.specs.declared.Number.the-variants.{Value, Refused}
 use Rattle.notice.specs.LineRule.{isCountry}
 use Rattle.notice.specs.NoticeRule.{countryField}
-use Rattle.dial_code.specs.CountryCode.{countryOfKey}
-use Rattle.dial_code.specs.Code.{isCodeKey}
+use Rattle.country_code.specs.CountryCode.{countryOfKey}
+use Rattle.country_code.specs.Code.{isCodeKey}
 use Rattle.notice.proofs.Codes.{country-tests, country-refused}
 use Rattle.notice.proofs.country_field.Statement.{statement}
 use Rattle.notice.proofs.country_field.Tie as tie

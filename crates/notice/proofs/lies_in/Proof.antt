@@ -2,7 +2,7 @@
 use mathlib.Core.Path.{ap, sym, _∙_}
 use borrow.Author.Needs.{needs}
 use Rattle.notice.specs.LineRule.{isCountry}
-use Rattle.dial_code.specs.declared.Country.{Country}
+use Rattle.country_code.specs.declared.Country.{Country}
 use Rattle.notice.proofs.lies_in.Statement.{statement}
 use Rattle.notice.proofs.lies_in.Tie as tie
 

@@ -2,8 +2,8 @@
 use mathlib.Core.Path.{_≡_, sym, _∙_}
 use native.Mathlib.Omega.{arith}
 use borrow.Author.Needs.{needs}
-use Rattle.dial_code.specs.CountryCode.{countryOfKey}
-use Rattle.dial_code.specs.declared.Country.the-variants.{Code}
+use Rattle.country_code.specs.CountryCode.{countryOfKey}
+use Rattle.country_code.specs.declared.Country.the-variants.{Code}
 use Rattle.update.proofs.Planning.{marks-one, marks-past, marks-none}
 use Rattle.update.proofs.mark.Statement.{statement}
 use Rattle.update.proofs.mark.Tie as tie

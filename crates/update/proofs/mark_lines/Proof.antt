@@ -5,7 +5,7 @@ use Prim.Native.Nat.{_≤_}
 use native.Mathlib.Omega.{arith}
 use borrow.Author.Needs.{needs}
 use lib.ListN.{length}
-use Rattle.dial_code.specs.CountryCode.{countryOfKey}
+use Rattle.country_code.specs.CountryCode.{countryOfKey}
 use Rattle.merge.specs.Lines.{linesAt}
 use Rattle.merge.proofs.LinesAgain.{lines-none-left, line-read, line-refused}
 use Rattle.update.specs.Plans.{marksOf}

@@ -5,7 +5,7 @@ use native.Mathlib.Omega.{arith}
 use borrow.Author.Needs.{needs}
 use Rattle.varint.specs.Writing.{sizeOf}
 use Rattle.varint.proofs.Several.{size-most}
-use Rattle.dial_code.specs.Code.{codeOf}
+use Rattle.dial_code.specs.Key.{codeOf}
 use Rattle.dial_code.specs.declared.Code.{Code}
 use Rattle.notice.specs.Layout.{offerFields}
 use Rattle.notice.proofs.LineSizes.{no-line, plain-size, open-size}

@@ -1,9 +1,9 @@
 -- stretch_of meets its contract. Assumes nothing.
 use mathlib.Core.Path.{sym}
 use borrow.Author.Needs.{needs}
-use Rattle.dial_code.proofs.StretchLaws.{no-stretch, some-stretch}
-use Rattle.dial_code.proofs.stretch_of.Statement.{statement}
-use Rattle.dial_code.proofs.stretch_of.Tie as tie
+use Rattle.country_code.proofs.StretchLaws.{no-stretch, some-stretch}
+use Rattle.country_code.proofs.stretch_of.Statement.{statement}
+use Rattle.country_code.proofs.stretch_of.Tie as tie
 
 returns : tie.Need-returns
 returns c = sym (no-stretch _ (c .if1 .taken))

@@ -1,83 +1,26 @@
--- Which words are keys of allowed codes: a word is the key of its digits where no place that holds a digit stands after one
--- that holds none. Assumes nothing.
+-- Which words are keys of allowed codes, by the tests of the code, and that such a word and its code determine each other.
+-- Assumes nothing.
 use mathlib.Core.Path.{_≡_, refl, ap, sym, _∙_}
 use mathlib.Core.Bool.{Bool, true, false, false≢true, cond, _&&_}
-use mathlib.Core.List.{List, [], _∷_}
-use Prim.Native.Nat.{ℕ, zero, suc, _+_, _-_, _*_, _/_, _%_, _≤_, _<_}
+use mathlib.Core.List.{List, _∷_}
+use Prim.Native.Nat.{ℕ, _-_, _*_, _/_, _%_, _≤_, _<_}
 use native.Mathlib.Omega.{arith}
-use borrow.Author.Tests.{le-leb, eq-eqb, ne-eqb, eqb-true}
+use borrow.Author.Tests.{eq-eqb, ne-eqb, eqb-true}
 use lib.Dec.{eqb, leb}
 use lib.ListN.{length, take}
-use Rattle.dial_code.specs.Digits.{every, isDigit, isNumber, value}
-use Rattle.dial_code.specs.Key.{key, keyFrom, keysEnd, firstPlace, thirdPlace, placesOf, digitsOfKey, isGapless}
-use Rattle.dial_code.specs.CountryCode.{countryDigits, country, countryOfKey}
-use Rattle.dial_code.specs.Stretches.{samePlaces}
-use Rattle.dial_code.specs.Code.{isCode, isCodeKey, isCodeKeyAfter}
-use Rattle.dial_code.specs.declared.Country.{Country}
-use Rattle.dial_code.specs.declared.Country.the-variants.{Code, None}
-use Rattle.dial_code.proofs.Tests.{both, same-eqb, below, equal, above, order}
+use Rattle.dial_code.specs.Digits.{isNumber, value}
+use Rattle.dial_code.specs.Key.{key, keysEnd, firstPlace, thirdPlace, placesOf, digitsOfKey, isGapless}
+use Rattle.country_code.specs.CountryCode.{countryDigits, country, countryOfKey}
+use Rattle.country_code.specs.Stretches.{samePlaces}
+use Rattle.country_code.specs.Code.{isCode, isCodeKey, isCodeKeyAfter}
+use Rattle.country_code.specs.declared.Country.{Country}
+use Rattle.country_code.specs.declared.Country.the-variants.{Code, None}
+use Rattle.dial_code.proofs.Tests.{both, below, equal, above, order}
 use Rattle.dial_code.proofs.Tests.{and-left-true, and-left-false, and-right-true, and-right-false}
 use Rattle.dial_code.proofs.DigitLaws.{no-digits, zero-first, number-cons, number-facts}
-use Rattle.dial_code.proofs.KeyLaws.{key-shift, digits-back}
-use Rattle.dial_code.proofs.CountryLaws.{places-none, places-some, of-digits, beyond, all-places, same-country}
-
-key-empty : key [] ≡ 0
-unfolding key
-key-empty = refl
-
-key-cons : (d : ℕ) (ds : List ℕ) → key (d ∷ ds) ≡ (d + 1) * firstPlace + keyFrom 2 ds
-unfolding key
-key-cons d ds = refl
-
-key-tail : (ds : List ℕ) → length ds ≤ 14 → keyFrom 2 ds * 11 ≡ key ds
-unfolding key
-key-tail ds h = key-shift 1 ds (omega arith)
-
--- The places of a word are at most so many digits.
-pub length-places : (k w : ℕ) → length (placesOf k w) ≤ k
-unfolding placesOf
-length-places zero w = omega arith
-length-places (suc k) w =
-    elim (order 0 (w / firstPlace)) [
-      | below h ↦ rw (places-some k w h) (omega (arith, length-places k (w % firstPlace * 11)))
-      | equal h ↦ rw (places-none k w (sym h)) (omega arith)
-      | above h ↦ absurd (omega arith)
-    ]
-
-pub digits-places : (k w : ℕ) → w < keysEnd → every isDigit (placesOf k w) ≡ true
-unfolding placesOf
-digits-places zero w h = refl
-digits-places (suc k) w h =
-    elim (order 0 (w / firstPlace)) [
-      | below l ↦
-          rw (places-some k w l, le-leb (w / firstPlace - 1) 9 (omega arith))
-          (digits-places k (w % firstPlace * 11) (omega arith))
-      | equal l ↦ rw (places-none k w (sym l))
-      | above l ↦ absurd (omega arith)
-    ]
-
--- Whether a word has no gap: none of its places is left to read, and one place more.
-pub no-more : (k w : ℕ) → placesOf k w ≡ [] → isGapless k w ≡ eqb w 0
-unfolding isGapless
-no-more k w e =
-    let z : key (placesOf k w) ≡ 0 = ap key e ∙ key-empty in
-    same-eqb (key (placesOf k w)) w w 0 (λ p. sym p ∙ z) (λ p. z ∙ sym p)
-
-pub one-more : (k w : ℕ) → k < 15 → firstPlace ≤ w → isGapless (suc k) w ≡ isGapless k (w % firstPlace * 11)
-unfolding isGapless
-one-more k w l h =
-    let p : placesOf (suc k) w ≡ (w / firstPlace - 1) ∷ rest = places-some k w (omega arith) in
-    let q : key (placesOf (suc k) w) ≡ (w / firstPlace - 1 + 1) * firstPlace + keyFrom 2 rest =
-    ap key p ∙ key-cons (w / firstPlace - 1) rest in
-    let s : keyFrom 2 rest * 11 ≡ key rest = key-tail rest (omega (arith, length-places k (w % firstPlace * 11))) in
-    let v : (w / firstPlace - 1 + 1) * firstPlace + w % firstPlace ≡ w = omega arith in
-    rw q
-    (same-eqb ((w / firstPlace - 1 + 1) * firstPlace + keyFrom 2 rest) w (key rest) (w % firstPlace * 11)
-    (λ (e : (w / firstPlace - 1 + 1) * firstPlace + keyFrom 2 rest ≡ w). omega (arith, s, v))
-    (λ (e : key rest ≡ w % firstPlace * 11). omega (arith, s, v)))
-  where
-    rest : List ℕ
-    rest = placesOf k (w % firstPlace * 11)
+use Rattle.dial_code.proofs.KeyLaws.{digits-back}
+use Rattle.dial_code.proofs.Places.{places-none, places-some, beyond, all-places, length-places, digits-places}
+use Rattle.country_code.proofs.CountryLaws.{of-digits, same-country}
 
 -- whether there is a country
 abbrev pub isSome : Country → Bool

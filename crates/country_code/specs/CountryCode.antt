@@ -5,10 +5,10 @@ use mathlib.Core.List.{List, [], _∷_, map}
 use Prim.Native.Nat.{ℕ, _+_, _-_, _*_}
 use lib.ListN.{length, take}
 use lib.Dec.{eqb, leb}
 use Rattle.dial_code.specs.Digits.{value}
 use Rattle.dial_code.specs.Key.{key, keysEnd, digitsOfKey}
-use Rattle.dial_code.specs.declared.Country.{Country}
-use Rattle.dial_code.specs.declared.Country.the-variants.{Code, None}
+use Rattle.country_code.specs.declared.Country.{Country}
+use Rattle.country_code.specs.declared.Country.the-variants.{Code, None}
 
 -- the country codes of one digit
 abbrev pub oneDigit : ℕ → Bool

@@ -1,11 +1,11 @@
--- Words with the same first three places: the country of a code shows in them, so that keys with the same have one country.
+-- Words with the same first three places, in which the country of a code shows.
 use mathlib.Core.Path.{_≡_, refl}
 use mathlib.Core.Bool.{Bool, true, false, cond, _&&_}
 use mathlib.Core.List.{[], _∷_}
 use Prim.Native.Nat.{ℕ, _+_, _-_, _/_, _%_}
 use lib.Dec.{eqb, leb, ltb}
 use Rattle.dial_code.specs.Key.{key, keysEnd, thirdPlace}
-use Rattle.dial_code.specs.declared.Stretch.{Stretch}
+use Rattle.country_code.specs.declared.Stretch.{Stretch}
 
 -- Whether two words have the same first three places.
 unfoldable pub samePlaces : ℕ → ℕ → Bool
@@ -52,7 +52,7 @@ within :
     ≡ false ∷ true ∷ true ∷ false ∷ false ∷ []
 within = refl
 
--- 234 and 2345, 234 and 235, 0 and the last word before the first place that is counted, the keys' end and the last key
+-- 234 and 2345, 234 and 235; 0 and the last word of its stretch, 0 and the next; the keys' end and the last key
 places :
     samePlaces (key (2 ∷ 3 ∷ 4 ∷ [])) (key (2 ∷ 3 ∷ 4 ∷ 5 ∷ []))
     ∷ samePlaces (key (2 ∷ 3 ∷ 4 ∷ [])) (key (2 ∷ 3 ∷ 5 ∷ []))

@@ -2,12 +2,12 @@
 use mathlib.Core.Path.{_≡_, refl, sym, _∙_}
 use Prim.Native.Nat.{_<_}
 use borrow.Author.Needs.{needs}
 use Rattle.dial_code.specs.Key.{keysEnd}
 use Rattle.dial_code.proofs.Tests.{positive}
-use Rattle.dial_code.proofs.CountryLaws.{first, second, two-fits, three-fits}
-use Rattle.dial_code.proofs.CountryLaws.{no-key, no-first, by-one, no-second, by-two, no-third, by-three}
-use Rattle.dial_code.proofs.country_of_key.Statement.{statement}
-use Rattle.dial_code.proofs.country_of_key.Tie as tie
+use Rattle.country_code.proofs.CountryLaws.{first, second, two-fits, three-fits}
+use Rattle.country_code.proofs.CountryLaws.{no-key, no-first, by-one, no-second, by-two, no-third, by-three}
+use Rattle.country_code.proofs.country_of_key.Statement.{statement}
+use Rattle.country_code.proofs.country_of_key.Tie as tie
 
 -- what the tests have shown once the second place holds a digit
 known :

@@ -1,18 +1,17 @@
--- Allowed codes, and the order of digit strings (document 01, "Codes and countries").
+-- Allowed codes (document 01, "Codes and countries").
 use mathlib.Core.Path.{_≡_, refl}
 use mathlib.Core.Bool.{Bool, true, false, cond, _&&_}
 use mathlib.Core.List.{List, [], _∷_}
 use Prim.Native.Nat.{ℕ, _+_}
 use lib.ListN.{length}
-use lib.Dec.{eqb, leb, ltb}
+use lib.Dec.{eqb, leb}
 use Rattle.refusal.specs.Refusal.{outOfRange, codeNotAllowed}
-use Rattle.dial_code.specs.Digits.{mostDigits, digits, isWritten, isNumber, value}
+use Rattle.dial_code.specs.Digits.{mostDigits, digits, isWritten, isNumber}
 use Rattle.dial_code.specs.Key.{key, digitsOfKey, keysEnd, isGapless}
-use Rattle.dial_code.specs.CountryCode.{countryDigits}
-use Rattle.dial_code.specs.Stretches.{samePlaces}
-use Rattle.dial_code.specs.declared.Code.{Code}
+use Rattle.country_code.specs.CountryCode.{countryDigits}
+use Rattle.country_code.specs.Stretches.{samePlaces}
 use Rattle.dial_code.specs.declared.Keyed.{Keyed}
 use Rattle.dial_code.specs.declared.Keyed.the-variants.{Key, Refused}
 
 -- An allowed code: 1 to 15 digits, the first not 0, and not shorter than its country code (000, 2i).
 unfoldable pub isCode : List ℕ → Bool
@@ -36,18 +35,6 @@ unfolding key digits isWritten isCode
 sentCodeKey count v =
     cond (isWritten count v) (cond (isCode (digits count v)) (Key (key (digits count v))) (Refused codeNotAllowed))
     (Refused outOfRange)
-
--- The code that a word is the key of, as it is sent: how many digits it has, and their value.
-unfoldable pub codeOf : ℕ → Code
-unfolding digitsOfKey value
-codeOf w = record { count = length (digitsOfKey w); value = value (digitsOfKey w) }
-
--- Dictionary order: a digit string stands before its extensions.
-unfoldable pub precedes : List ℕ → List ℕ → Bool
-precedes [] [] = false
-precedes [] (e ∷ es) = true
-precedes (d ∷ ds) [] = false
-precedes (d ∷ ds) (e ∷ es) = cond (ltb d e) true (eqb d e && precedes ds es)
 
 codes :
     isCode (1 ∷ [])
@@ -123,24 +110,3 @@ sent-codes :
     ∷ []
 unfolding sentCodeKey
 sent-codes = refl
-
--- 23480, 007, and words that are no key: 0, and the keys' end
-sent :
-    codeOf (key (2 ∷ 3 ∷ 4 ∷ 8 ∷ 0 ∷ [])) ∷ codeOf (key (0 ∷ 0 ∷ 7 ∷ [])) ∷ codeOf 0 ∷ codeOf keysEnd ∷ []
-    ≡ record { count = 5; value = 23480 }
-    ∷ record { count = 3; value = 7 }
-    ∷ record { count = 0; value = 0 }
-    ∷ record { count = 0; value = 0 }
-    ∷ []
-unfolding codeOf key
-sent = refl
-
-order :
-    precedes (1 ∷ []) (1 ∷ 0 ∷ [])
-    ∷ precedes (1 ∷ 9 ∷ []) (2 ∷ [])
-    ∷ precedes (2 ∷ []) (1 ∷ 9 ∷ [])
-    ∷ precedes (3 ∷ []) (3 ∷ [])
-    ∷ []
-    ≡ true ∷ true ∷ false ∷ false ∷ []
-unfolding precedes
-order = refl

@@ -4,14 +4,17 @@ use mathlib.Core.Bool.{Bool, true, false, not, cond}
 use mathlib.Core.List.{List, [], _∷_}
 use Prim.Native.Nat.{ℕ, suc, _+_, _-_, _*_, _/_, _%_, _^_, _≤_, _<_}
 use native.Mathlib.Omega.{arith}
-use borrow.Author.Tests.{lt-ltb, le-ltb, le-leb, eq-eqb, ne-eqb, eqb-true, eqb-false}
+use borrow.Author.Tests.{le-leb, ne-eqb, eqb-true, eqb-false}
 use lib.Dec.{eqb}
 use lib.ListN.{length}
-use Rattle.dial_code.specs.Key.{keysEnd, firstPlace, thirdPlace, placesOf, digitsOfKey}
-use Rattle.dial_code.specs.CountryCode.{oneDigit, twoDigits, country, countryOfKey}
-use Rattle.dial_code.specs.declared.Country.{Country}
-use Rattle.dial_code.specs.declared.Country.the-variants.{Code, None}
+use Rattle.dial_code.specs.Digits.{every, isDigit}
+use Rattle.dial_code.specs.Key.{key, keysEnd, firstPlace, thirdPlace, placesOf, digitsOfKey}
+use Rattle.country_code.specs.CountryCode.{oneDigit, twoDigits, country, countryOfKey}
+use Rattle.country_code.specs.declared.Country.{Country}
+use Rattle.country_code.specs.declared.Country.the-variants.{Code, None}
+use Rattle.dial_code.proofs.Places.{places-none, places-some, beyond, all-places}
+use Rattle.dial_code.proofs.KeyLaws.{digits-back}
 use Rattle.dial_code.proofs.Tests.{below, equal, above, order, positive, allBelow, each-below}
 
 same : Bool → Bool → Bool
 same true b = b
@@ -31,15 +34,6 @@ low-bits v h = same-eq _ _ (each-below (λ (u : ℕ). same (eqb (178691525758377
 pub high-bits : (v : ℕ) → v < 36 → eqb (21413363719 / 2 ^ v % 2) 1 ≡ twoDigits (v + 64)
 unfolding allBelow same twoDigits
 high-bits v h = same-eq _ _ (each-below (λ (u : ℕ). same (eqb (21413363719 / 2 ^ u % 2) 1) (twoDigits (u + 64))) 36 refl v h)
-
--- a word's first place, and the places after it moved up
-pub places-none : (k w : ℕ) → w / firstPlace ≡ 0 → placesOf (suc k) w ≡ []
-unfolding placesOf
-places-none k w e = rw (eq-eqb _ _ e)
-
-pub places-some : (k w : ℕ) → 0 < w / firstPlace → placesOf (suc k) w ≡ (w / firstPlace - 1) ∷ placesOf k (w % firstPlace * 11)
-unfolding placesOf
-places-some k w h = rw (ne-eqb (w / firstPlace) 0 (λ (e : w / firstPlace ≡ 0). omega arith))
 
 -- The first three places of a word.
 abbrev pub first : ℕ → ℕ
@@ -111,29 +105,26 @@ pub of-digits : (w : ℕ) {ds : List ℕ} → digitsOfKey w ≡ ds → countryOf
 unfolding countryOfKey
 of-digits w e = ap country e
 
+-- The country of a code is that of its key.
+pub country-of-key : (ds : List ℕ) → every isDigit ds ≡ true → length ds ≤ 15 → countryOfKey (key ds) ≡ country ds
+unfolding countryOfKey
+country-of-key ds e h = ap country (digits-back ds e h)
+
 country-none : country [] ≡ None
 unfolding country
 country-none = refl
 
--- From the keys' end on a word has no digits.
-pub beyond : (w : ℕ) → keysEnd ≤ w → digitsOfKey w ≡ []
-unfolding digitsOfKey
-beyond w h = rw (le-ltb w keysEnd h)
-
+-- From the keys' end on a word has no country.
 pub no-key : (w : ℕ) → keysEnd ≤ w → countryOfKey w ≡ None
 no-key w h = of-digits w (beyond w h) ∙ country-none
 
 -- The country of a key by its first three places.
 module _ (w : ℕ) (h : w < keysEnd) where
-  pub all-places : digitsOfKey w ≡ placesOf 15 w
-  unfolding digitsOfKey
-  all-places = rw (lt-ltb w keysEnd h)
-
   pub no-first : first w ≡ 0 → countryOfKey w ≡ None
-  no-first e = of-digits w (all-places ∙ places-none 14 w (sym (first-place w) ∙ e)) ∙ country-none
+  no-first e = of-digits w (all-places w h ∙ places-none 14 w (sym (first-place w) ∙ e)) ∙ country-none
 
   one-place : 0 < first w → digitsOfKey w ≡ (first w - 1) ∷ placesOf 14 (w % firstPlace * 11)
-  one-place f = all-places ∙ rw (first-place w) (places-some 14 w (rw (first-place w) at f))
+  one-place f = all-places w h ∙ rw (first-place w) (places-some 14 w (rw (first-place w) at f))
 
   pub by-one : (a : ℕ) → oneDigit a ≡ true → first w ≡ a + 1 → countryOfKey w ≡ Code a
   by-one a o e =

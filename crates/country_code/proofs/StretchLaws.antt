@@ -5,11 +5,11 @@ use Prim.Native.Nat.{ℕ, _+_, _-_, _/_, _%_, _≤_, _<_}
 use native.Mathlib.Omega.{arith}
 use borrow.Author.Tests.{lt-ltb, le-ltb, leb-true, le-leb, ltb-true, eq-eqb, eqb-true}
 use lib.Dec.{leb, ltb}
 use Rattle.dial_code.specs.Key.{keysEnd, thirdPlace}
-use Rattle.dial_code.specs.CountryCode.{countryOfKey}
-use Rattle.dial_code.specs.Stretches.{samePlaces, isWithin, stretchOf}
+use Rattle.country_code.specs.CountryCode.{countryOfKey}
+use Rattle.country_code.specs.Stretches.{samePlaces, isWithin, stretchOf}
 use Rattle.dial_code.proofs.Tests.{both, same-test, and-left-true, below, equal, above, order}
-use Rattle.dial_code.proofs.CountryLaws.{same-country}
+use Rattle.country_code.proofs.CountryLaws.{same-country}
 
 -- The rule by the tests of the code.
 pub no-stretch : (k : ℕ) → keysEnd ≤ k → stretchOf k ≡ record { low = 0; high = 0 }

@@ -3,10 +3,10 @@ use mathlib.Core.Path.{ap, _∙_}
 use Prim.Native.Nat.{_-_}
 use native.Mathlib.Omega.{arith}
 use borrow.Author.Needs.{needs}
-use Rattle.dial_code.specs.CountryCode.{twoDigits}
-use Rattle.dial_code.proofs.CountryLaws.{low-bits, high-bits}
-use Rattle.dial_code.proofs.is_two_digits.Statement.{statement}
-use Rattle.dial_code.proofs.is_two_digits.Tie as tie
+use Rattle.country_code.specs.CountryCode.{twoDigits}
+use Rattle.country_code.proofs.CountryLaws.{low-bits, high-bits}
+use Rattle.country_code.proofs.is_two_digits.Statement.{statement}
+use Rattle.country_code.proofs.is_two_digits.Tie as tie
 
 shr-result : tie.Need-shr-result
 shr-result c = search needs
