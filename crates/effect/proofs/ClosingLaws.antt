@@ -1,6 +1,6 @@
 -- Whether a code that is not listed is closed, by the tests of the code, and stretches of keys that are closed alike. Assumes
 -- nothing.
-use mathlib.Core.Path.{_≡_, refl, ap, sym, _∙_}
+use mathlib.Core.Path.{_≡_, refl}
 use mathlib.Core.Bool.{Bool, true, false, cond}
 use mathlib.Core.List.{List}
 use Prim.Native.Nat.{ℕ, _≤_, _<_}
@@ -10,7 +10,7 @@ use lib.Dec.{eqb, leb, ltb}
 use lib.ListN.{getD}
 use Rattle.dial_code.specs.Key.{keysEnd}
 use Rattle.country_code.specs.CountryCode.{countryOfKey}
-use Rattle.country_code.specs.Stretches.{isWithin, stretchOf}
+use Rattle.country_code.specs.Stretches.{isWithin}
 use Rattle.country_code.specs.declared.Country.{Country}
 use Rattle.country_code.specs.declared.Country.the-variants.{Code, None}
 use Rattle.country_code.proofs.StretchLaws.{one-country}

@@ -20,7 +20,7 @@ use Rattle.notice.specs.LineRule.{lineOf}
 use Rattle.notice.specs.Layout.{lineFields, encodeLines}
 use Rattle.notice.specs.declared.Line.{Line}
 use Rattle.notice.proofs.LayoutLaws.{line-bytes, lines-nil, lines-append}
-use Rattle.book.specs.Layout.{headerWords, entryWords, mostEntries, countOf, entryAt, entriesFrom, entriesOf}
+use Rattle.book.specs.Layout.{headerWords, entryWords, mostEntries, entryAt, entriesFrom, entriesOf}
 use Rattle.book.specs.Soundness.{headedCount, sound}
 use Rattle.book.specs.Status.{heldOffer}
 use Rattle.book.specs.declared.Entry.{Entry}

@@ -1,16 +1,16 @@
 -- The search by halving: what it finds between its two ends, and that in a sound book this is the status of a code. Assumes
 -- nothing.
 use mathlib.Core.Path.{_≡_, refl, ap, sym, _∙_}
-use mathlib.Core.Bool.{Bool, true, false, cond, _&&_}
+use mathlib.Core.Bool.{Bool, true, false, cond}
 use mathlib.Core.List.{List}
 use Prim.Native.Nat.{ℕ, zero, suc, _+_, _-_, _*_, _/_, _≤_, _<_}
 use native.Mathlib.Numerals.{sub-one}
 use native.Mathlib.Omega.{arith}
 use borrow.Author.Tests.{leb-true, leb-false, ltb-true, ltb-false, eqb-true, eqb-false}
-use borrow.Author.Tests.{eq-eqb, ne-eqb, le-leb, lt-leb, lt-ltb, le-ltb}
+use borrow.Author.Tests.{eq-eqb, ne-eqb, lt-leb, lt-ltb, le-ltb}
 use lib.Dec.{eqb, leb, ltb}
 use lib.ListN.{length}
-use Rattle.dial_code.proofs.Tests.{below, equal, above, order, both, and-right-false}
+use Rattle.dial_code.proofs.Tests.{below, equal, above, order}
 use Rattle.book.specs.Layout.{headerWords, entryWords, countOf, entry, entryAt, entriesFrom, entriesOf}
 use Rattle.lookup.specs.Search.{notAfter, halved, upTo, foundUpTo, lastEntry, ownWord}
 use Rattle.book.specs.Soundness.{sound}

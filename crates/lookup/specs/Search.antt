@@ -1,17 +1,16 @@
 -- The search by halving, over any words. In a sound book it finds what `Status` says (proofs/Halving.antt, Matching.antt); in any
 -- other, what it comes upon.
 use mathlib.Core.Path.{_≡_, refl}
-use mathlib.Core.Bool.{Bool, true, false, cond, _&&_}
+use mathlib.Core.Bool.{Bool, true, false, cond}
 use mathlib.Core.List.{List, [], _∷_}
 use Prim.Native.Nat.{ℕ, zero, suc, _+_, _-_, _*_, _/_, min}
 use lib.Dec.{eqb, leb, ltb}
-use lib.ListN.{length}
 use Rattle.dial_code.specs.Digits.{mostDigits}
 use Rattle.dial_code.specs.Key.{key, prefixKey}
 use Rattle.rate.specs.Price.{rate}
 use Rattle.rate.specs.OfferWord.{offerOf}
 use Rattle.rate.specs.declared.Offer.the-variants.{Closed, Blocked, Open}
-use Rattle.book.specs.Layout.{headerWords, entryWords, countOf, entry, entryAt, bookOf}
+use Rattle.book.specs.Layout.{headerWords, entryWords, entry, entryAt, bookOf}
 use Rattle.book.specs.Soundness.{headedCount}
 use Rattle.book.specs.Status.{heldOffer}
 use Rattle.lookup.specs.Match.{answer, standing}

@@ -5,7 +5,7 @@ use mathlib.Core.List.{List, [], _∷_, _++_}
 use Prim.Native.Nat.{ℕ, _+_, _*_}
 use native.Mathlib.Omega.{arith}
 use lib.ListN.{length, length-append}
-use lib.Seq.{sets, length-sets}
+use lib.Seq.{length-sets}
 use Rattle.book.specs.Layout.{headerWords, entryWords, wordsOf}
 use Rattle.book.specs.declared.Entry.{Entry}
 use Rattle.book.proofs.BookWords.{length-words}

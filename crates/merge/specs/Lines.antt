@@ -1,6 +1,5 @@
 -- The lines of a notice read again one by one, each by itself: at most so many, up to the first that does not read. In a notice that
 -- has been checked they are its lines (proofs/LinesAgain.antt).
-use mathlib.Core.Path.{_≡_, refl}
 use mathlib.Core.List.{List, [], _∷_}
 use Prim.Native.Nat.{ℕ, zero, suc}
 use Rattle.notice.specs.LineRule.{lineAt}

@@ -1,5 +1,4 @@
 -- The plan of a notice, worked once from its summary, and its table of marks.
-use mathlib.Core.Path.{_≡_, refl}
 use mathlib.Core.Bool.{cond, _||_}
 use mathlib.Core.List.{List, [], _∷_}
 use Prim.Native.Nat.{ℕ, _+_, max}

@@ -1,6 +1,6 @@
 -- `merge::merge` meets its contract. The invariant: merging what is left of the old entries with the lines that are left comes to the
 -- merge of all (`Merging`), and the numbers of the place stay small. The measure is the number of lines left. Assumes nothing.
-use mathlib.Core.Path.{_≡_, ap}
+use mathlib.Core.Path.{ap}
 use Prim.Native.Nat.{_+_, _*_, _≤_}
 use native.Mathlib.Omega.{arith}
 use borrow.Author.Needs.{needs}

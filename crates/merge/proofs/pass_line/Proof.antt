@@ -1,16 +1,12 @@
 -- `merge::pass_line` meets its contract: one pass after the other.
 -- Assumes nothing.
-use mathlib.Core.Path.{ap}
-use mathlib.Core.List.{List}
 use native.Mathlib.Omega.{arith}
 use borrow.Author.Needs.{needs}
-use lib.ListN.{length}
 use Rattle.book.specs.Layout.{entriesFrom}
-use Rattle.book.specs.declared.Entry.{Entry}
 use Rattle.merge.specs.Passes.{gapBelow, restFrom, listedGroup, lineEntries, lineRest}
 use Rattle.effect.specs.Closings.{closesBy}
 use Rattle.merge.proofs.Stores.{puts-on}
-use Rattle.merge.proofs.PassLaws.{length-line, passed-on, gap-bound}
+use Rattle.merge.proofs.PassLaws.{passed-on, gap-bound}
 use Rattle.merge.proofs.pass_line.Statement.{statement}
 use Rattle.merge.proofs.pass_line.Tie as tie
 

@@ -1,15 +1,15 @@
 -- `merge::pass_listed` meets its contract: the entries kept, and the line's change where it is no repetition.
 -- Assumes nothing.
-use mathlib.Core.Path.{_≡_, ap, _∙_}
+use mathlib.Core.Path.{_≡_}
 use mathlib.Core.List.{[], _∷_, _++_}
 use native.Mathlib.Omega.{arith}
 use borrow.Author.Needs.{needs}
-use lib.ListN.{length, length-append}
+use lib.ListN.{length-append}
 use Rattle.book.specs.Layout.{entriesFrom}
 use Rattle.book.proofs.Rows.{length-rows}
 use Rattle.merge.specs.Passes.{keptOf, listedGroup}
 use Rattle.merge.proofs.Stores.{puts-on}
-use Rattle.merge.proofs.PassLaws.{listed-same, listed-new, length-listed, kept-most}
+use Rattle.merge.proofs.PassLaws.{listed-same, listed-new, kept-most}
 use Rattle.merge.proofs.pass_listed.Statement.{statement}
 use Rattle.merge.proofs.pass_listed.Tie as tie
 

@@ -1,12 +1,11 @@
 -- `merge::put_unlisted` meets its contract: which entries stay is known at each return.
 -- Assumes nothing.
-use mathlib.Core.Path.{_≡_, refl, ap, sym, _∙_}
+use mathlib.Core.Path.{_≡_, refl, sym, _∙_}
 use mathlib.Core.List.{[], _∷_}
 use Prim.Native.Nat.{_+_, _*_}
 use native.Mathlib.Omega.{arith}
 use borrow.Author.Needs.{needs}
 use borrow.Author.Tests.{not-true, not-false}
-use lib.ListN.{length}
 use Rattle.book.specs.Layout.{headerWords, entryWords, entry, entriesFrom}
 use Rattle.merge.specs.Passes.{unlistedAs}
 use Rattle.merge.proofs.Stores.{stored-nil, no-words, puts-on}

@@ -1,7 +1,5 @@
 -- `update::has_room` meets its contract: room for the most entries is room for those that there are. Assumes nothing.
-use mathlib.Core.Path.{_≡_, refl, ap, ap₂, sym, _∙_}
-use mathlib.Core.Bool.{false}
-use Prim.Native.Nat.{ℕ}
+use mathlib.Core.Path.{refl, ap₂, sym}
 use native.Mathlib.Omega.{arith}
 use borrow.Author.Needs.{needs}
 use borrow.Author.Tests.{le-leb}
@@ -11,7 +9,6 @@ use Rattle.book.specs.Layout.{held}
 use Rattle.book.proofs.Headers.{count-room}
 use Rattle.merge.specs.Lines.{linesAt}
 use Rattle.merge.specs.Merge.{mergedBy}
-use Rattle.merge.specs.declared.Merged.{Merged}
 use Rattle.merge.proofs.LinesAgain.{length-lines}
 use Rattle.merge.proofs.MergedLength.{merged-most}
 use Rattle.merge.proofs.Merging.{answered, counted-only}

@@ -1,93 +1,64 @@
-use mathlib.Core.Path.{_≡_, refl, ap, sym, _∙_}
-use mathlib.Core.Bool.{Bool, true, false}
-use mathlib.Core.List.{List, [], _∷_, _++_}
-use mathlib.Core.Logic.{⊎-elim}
-use Prim.Native.Nat.{ℕ, zero, suc, _+_, _-_, _*_, _/_, _≤_, _<_}
-use native.Mathlib.Omega.{arith}
-use native.Mathlib.Numerals.{add-one, sub-one}
+use mathlib.Core.Path.{refl}
+use Prim.Native.Nat.{_-_, _/_}
 use borrow.Author.Needs.{needs}
-use borrow.Author.Tests.{lt-ltb, le-ltb, le-leb, lt-leb, eq-eqb, ne-eqb}
-use lib.ListN.{length, getD, drop, take, set, length-set}
-use lib.Dec.{eqb, leb, ltb}
 use borrow.Author.Needs.{needs}
 use Rattle.book.proofs.words.entry_at.Statement.{statement}
 use Rattle.book.proofs.words.entry_at.Tie as tie
-use Rattle.book.proofs.words.entry_at.Reads as reads
-use Rattle.book.proofs.words.entry_at.Lts as lts
-use Rattle.book.proofs.words.word_at.Reads as word-at-reads
 use Rattle.book.specs.Layout.{entryAt}
 use Rattle.book.proofs.Places.{past-entry}
 
--- src/words.rt:23:9
 returns : tie.Need-returns
 returns c = past-entry _ _ (c .if1 .taken)
 
--- src/words.rt:29:8
 sub-if2 : tie.Need-sub-if2
 sub-if2 c = search needs
 
--- src/words.rt:31:18
 mul-t6 : tie.Need-mul-t6
 mul-t6 c = search needs
 
--- src/words.rt:31:18
 shared-slice-read-t8 : tie.Need-shared-slice-read-t8
 shared-slice-read-t8 c = search needs
 
--- src/words.rt:32:33
 add-word-at : tie.Need-add-word-at
 add-word-at c = search needs
 
--- src/words.rt:32:18
 word-at-requires : tie.Need-word-at-requires
 word-at-requires c κs = search needs
 
--- src/words.rt:33:35
 add-word-at-2 : tie.Need-add-word-at-2
 add-word-at-2 c = search needs
 
--- src/words.rt:33:20
 word-at-requires-2 : tie.Need-word-at-requires-2
 word-at-requires-2 c κs = search needs
 
--- src/words.rt:30:9
 returns-2 : tie.Need-returns-2
 unfolding entryAt
 returns-2 c = rw (c .before .word-at .ensures, c .word-at2 .ensures)
 
--- src/words.rt:37:14
 mul-t3 : tie.Need-mul-t3
 mul-t3 c = search needs
 
--- src/words.rt:37:14
 shared-slice-read-t14 : tie.Need-shared-slice-read-t14
 shared-slice-read-t14 c = search needs
 
--- src/words.rt:38:20
 add-t5 : tie.Need-add-t5
 add-t5 c = search needs
 
--- src/words.rt:38:14
 mul-t15 : tie.Need-mul-t15
 mul-t15 c = search needs
 
--- src/words.rt:38:14
 shared-slice-read-t17 : tie.Need-shared-slice-read-t17
 shared-slice-read-t17 c = search needs
 
--- src/words.rt:39:22
 add-t18 : tie.Need-add-t18
 add-t18 c = search needs
 
--- src/words.rt:39:16
 mul-t19 : tie.Need-mul-t19
 mul-t19 c = search needs
 
--- src/words.rt:39:16
 shared-slice-read-t21 : tie.Need-shared-slice-read-t21
 shared-slice-read-t21 c = search needs
 
--- src/words.rt:19:1
 returns-3 : tie.Need-returns-3
 unfolding entryAt
 returns-3 c = refl
