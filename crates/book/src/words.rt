@@ -15,8 +15,8 @@ fn word_at(words: &[u64], at: usize) -> u64
     if at < words.len() { words[at] } else { 0 }
 }
 
-// The entry that starts at a place; words past the end count as 0.
-pub fn entry_at(words: &[u64], at: usize) -> Entry
+// The entry that starts at one of the last words, or past them: words past the end count as 0.
+fn cut_entry(words: &[u64], at: usize) -> Entry
     ensures { λ r. ⌜ r ≡ entryAt (now (words .entry)) at ⌝ }
 {
     if words.len() <= at {
@@ -26,18 +26,27 @@ pub fn entry_at(words: &[u64], at: usize) -> Entry
             offer: 0,
         };
     }
-    if words.len() - at < crate::ENTRY_WORDS {
-        return Entry {
-            key: words[at],
-            day: word_at(words, at + 1),
-            offer: word_at(words, at + 2),
-        };
-    }
     Entry {
         key: words[at],
-        day: words[at + 1],
-        offer: words[at + 2],
+        day: word_at(words, at + 1),
+        offer: word_at(words, at + 2),
     }
+}
+
+// The entry that starts at a place; words past the end count as 0.
+pub fn entry_at(words: &[u64], at: usize) -> Entry
+    ensures { λ r. ⌜ r ≡ entryAt (now (words .entry)) at ⌝ }
+{
+    if crate::ENTRY_WORDS <= words.len() {
+        if at <= words.len() - crate::ENTRY_WORDS {
+            return Entry {
+                key: words[at],
+                day: words[at + 1],
+                offer: words[at + 2],
+            };
+        }
+    }
+    cut_entry(words, at)
 }
 
 // Sets the word at a place, where there is one.
@@ -49,22 +58,31 @@ fn put_word(words: &mut [u64], at: usize, word: u64)
     }
 }
 
-// Writes an entry at a place, as far as there are words for it.
-pub fn write_entry(words: &mut [u64], at: usize, e: Entry)
+// Writes an entry at one of the last words, as far as there are words for it.
+fn write_cut(words: &mut [u64], at: usize, e: Entry)
     ensures { λ _. ⌜ now (words .exit) ≡ sets (now (words .entry)) at (wordsOf (e ∷ [])) ⌝ }
 {
     if words.len() <= at {
         return;
     }
-    if words.len() - at < crate::ENTRY_WORDS {
-        put_word(words, at, e.key);
-        put_word(words, at + 1, e.day);
-        put_word(words, at + 2, e.offer);
-        return;
+    put_word(words, at, e.key);
+    put_word(words, at + 1, e.day);
+    put_word(words, at + 2, e.offer);
+}
+
+// Writes an entry at a place, as far as there are words for it.
+pub fn write_entry(words: &mut [u64], at: usize, e: Entry)
+    ensures { λ _. ⌜ now (words .exit) ≡ sets (now (words .entry)) at (wordsOf (e ∷ [])) ⌝ }
+{
+    if crate::ENTRY_WORDS <= words.len() {
+        if at <= words.len() - crate::ENTRY_WORDS {
+            words[at] = e.key;
+            words[at + 1] = e.day;
+            words[at + 2] = e.offer;
+            return;
+        }
     }
-    words[at] = e.key;
-    words[at + 1] = e.day;
-    words[at + 2] = e.offer;
+    write_cut(words, at, e);
 }
 
 // The header words.

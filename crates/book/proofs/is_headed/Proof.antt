@@ -1,3 +1,4 @@
+-- `book::is_headed` meets its contract. Assumes nothing.
 use mathlib.Core.Path.{ap, sym}
 use Prim.Native.Nat.{_-_, _/_}
 use native.Mathlib.Omega.{arith}

@@ -1,3 +1,4 @@
+-- `effect::closed_anyway` meets its contract. Assumes nothing.
 use Prim.Native.Nat.{_-_, _/_}
 use Rattle.effect.proofs.closed_anyway.Statement.{statement}
 use Rattle.effect.proofs.closed_anyway.Tie as tie

@@ -1,3 +1,4 @@
+-- `effect::is_increase` meets its contract. Assumes nothing.
 use Prim.Native.Nat.{_-_, _/_}
 use borrow.Author.Needs.{needs}
 use borrow.Author.Needs.{needs}

@@ -1,4 +1,5 @@
-use Prim.Native.Nat.{_-_, _/_}
+-- `book::words::header_of` meets its contract. Assumes nothing.
+use Prim.Native.Nat.{_-_}
 use borrow.Author.Needs.{needs}
 use borrow.Author.Needs.{needs}
 use Rattle.book.proofs.words.header_of.Statement.{statement}

@@ -1,4 +1,5 @@
-use Prim.Native.Nat.{_-_, _/_}
+-- `book::words::word_at` meets its contract. Assumes nothing.
+use Prim.Native.Nat.{_-_}
 use native.Mathlib.Omega.{arith}
 use borrow.Author.Needs.{needs}
 use borrow.Author.Needs.{needs}

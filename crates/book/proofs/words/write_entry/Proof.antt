@@ -1,47 +1,15 @@
-use mathlib.Core.Path.{ap, _∙_}
-use mathlib.Core.List.{List, [], _∷_}
-use Prim.Native.Nat.{ℕ, _+_, _-_, _/_}
+-- `book::words::write_entry` meets its contract. Assumes nothing.
+use Prim.Native.Nat.{_-_}
 use native.Mathlib.Omega.{arith}
 use borrow.Author.Needs.{needs}
-use lib.ListN.{set, length-set}
+use lib.ListN.{length-set}
 use borrow.Author.Needs.{needs}
 use Rattle.book.proofs.words.write_entry.Statement.{statement}
 use Rattle.book.proofs.words.write_entry.Tie as tie
-use Rattle.book.proofs.Places.{sets-out, one-stored}
-use Rattle.book.specs.Layout.{wordsOf}
-
-returns : tie.Need-returns
-returns c = let a = c .before .before .args in sets-out (a .words .now) (a .at) (wordsOf (a .e ∷ [])) (omega arith)
+use Rattle.book.proofs.Places.{one-stored}
 
 sub-if2 : tie.Need-sub-if2
 sub-if2 c = search needs
-
-put-word-requires : tie.Need-put-word-requires
-put-word-requires c κs = search needs
-
-add-put-word : tie.Need-add-put-word
-add-put-word c = search needs
-
-put-word-requires-2 : tie.Need-put-word-requires-2
-put-word-requires-2 c κs = search needs
-
-add-put-word-2 : tie.Need-add-put-word-2
-add-put-word-2 c = search needs
-
-put-word-requires-3 : tie.Need-put-word-requires-3
-put-word-requires-3 c κs = search needs
-
-same-length : tie.Need-same-length
-same-length c = search needs
-
-returns-2 : tie.Need-returns-2
-returns-2 c =
-    let a = c .before .before .before .before .before .before .before .before .before .before .before .before .before .before .before .args in
-    c .before .before .put-word3 .ensures
-    ∙ ap (λ (l : List ℕ). set l (a .at + 2) (a .e .offer))
-    (c .before .before .before .before .before .before .put-word2 .ensures
-    ∙ ap (λ (l : List ℕ). set l (a .at + 1) (a .e .day)) (c .before .before .before .before .before .before .before .before .before .before .put-word .ensures))
-    ∙ one-stored (a .words .now) (a .at) (a .e)
 
 mul-words : tie.Need-mul-words
 mul-words c = search needs
@@ -67,27 +35,28 @@ mul-words-3 c = search needs
 slice-write-words-3 : tie.Need-slice-write-words-3
 slice-write-words-3 c = simp length-set (omega arith)
 
+same-length : tie.Need-same-length
+same-length c = search needs
+
+returns : tie.Need-returns
+returns c =
+    let a = c .before .before .before .args in
+    one-stored (a .words .now) (a .at) (a .e)
+
+write-cut-requires : tie.Need-write-cut-requires
+write-cut-requires c κs = search needs
+
 same-length-2 : tie.Need-same-length-2
 same-length-2 c = search needs
 
-returns-3 : tie.Need-returns-3
-returns-3 c =
-    let a = c .before .before .before .args in
-    one-stored (a .words .now) (a .at) (a .e)
+returns-2 : tie.Need-returns-2
+returns-2 c = search needs
 
 pub write-entry-spec : {M : Type 1} → statement M
 write-entry-spec =
     tie.close
     (tie.spec
-    returns
     sub-if2
-    put-word-requires
-    add-put-word
-    put-word-requires-2
-    add-put-word-2
-    put-word-requires-3
-    same-length
-    returns-2
     mul-words
     slice-write-words
     add-words
@@ -96,5 +65,8 @@ write-entry-spec =
     add-words-2
     mul-words-3
     slice-write-words-3
+    same-length
+    returns
+    write-cut-requires
     same-length-2
-    returns-3)
+    returns-2)
