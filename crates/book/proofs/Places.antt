@@ -1,30 +1,19 @@
 -- Words read and written at any place: past the end a word is 0 and nothing is written. Assumes nothing.
-use mathlib.Core.Path.{_≡_, refl, ap, sym, _∙_}
+use mathlib.Core.Path.{_≡_, refl, ap, _∙_}
 use mathlib.Core.List.{List, [], _∷_, _++_}
 use Prim.Native.Nat.{ℕ, zero, suc, _+_, _-_, _≤_}
 use native.Mathlib.Nat.{sub-zero}
 use native.Mathlib.Numerals.{add-one}
 use native.Mathlib.Omega.{arith}
 use lib.ListN.{length, getD, set, drop, replicate}
-use lib.Seq.{sets, set-out}
-use Rattle.book.specs.Layout.{entry, entryAt, wordsOf}
+use lib.Seq.{sets}
+use Rattle.book.specs.Layout.{entry, wordsOf}
 use Rattle.book.specs.declared.Entry.{Entry}
 
 pub past-word : (ws : List ℕ) (i : ℕ) → length ws ≤ i → 0 ≡ getD ws i 0
 past-word [] i h = refl
 past-word (w ∷ ws) zero h = absurd (omega arith)
 past-word (w ∷ ws) (suc i) h = past-word ws i (omega arith)
-
-pub past-entry : (ws : List ℕ) (at : ℕ) → length ws ≤ at → entry 0 0 0 ≡ entryAt ws at
-unfolding entryAt
-past-entry ws at h =
-    rw (← past-word ws at h, ← past-word ws (at + 1) (omega arith), ← past-word ws (at + 2) (omega arith))
-
-pub sets-out : (ws : List ℕ) (i : ℕ) (vs : List ℕ) → length ws ≤ i → ws ≡ sets ws i vs
-sets-out ws i [] h = refl
-sets-out ws i (v ∷ vs) h =
-    let e = set-out ws i v h in
-    sets-out ws (suc i) vs (omega arith) ∙ ap (λ (l : List ℕ). sets l (suc i) vs) (sym e)
 
 -- Words stored after others.
 pub sets-on : (ws : List ℕ) (i : ℕ) (xs ys : List ℕ) → sets (sets ws i xs) (i + length xs) ys ≡ sets ws i (xs ++ ys)

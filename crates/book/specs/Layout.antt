@@ -17,6 +17,10 @@ entryWords = 3
 abbrev pub mostEntries : ℕ
 mostEntries = 65535
 
+-- the words of the longest book that is of use
+abbrev pub mostWords : ℕ
+mostWords = headerWords + mostEntries * entryWords
+
 abbrev pub mostPeriod : ℕ
 mostPeriod = 365
 

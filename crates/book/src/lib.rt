@@ -115,14 +115,14 @@ fn are_sound(words: &[u64], count: usize) -> bool
     if count == 0 {
         return true;
     }
-    let mut before = words::entry_at(words, HEADER_WORDS);
+    let mut before = words::entry_in(words, HEADER_WORDS);
     if !can_begin(before) {
         return false;
     }
     let mut at = HEADER_WORDS + ENTRY_WORDS;
     let mut left = count - 1;
     while 0 < left {
-        let e = words::entry_at(words, at);
+        let e = words::entry_in(words, at);
         if !can_follow(before, e) {
             return false;
         }

@@ -1,10 +1,10 @@
 // The words of a book (document 01, "The book"): its header and its entries, read and written at any place of any words.
 ghost use mathlib.Core.Path.{_≡_};
 ghost use mathlib.Core.List.{[], _∷_};
-ghost use Prim.Native.Nat.{_-_};
+ghost use Prim.Native.Nat.{_+_, _-_, _≤_};
 ghost use lib.ListN.{length, getD, replicate};
 ghost use lib.Seq.{sets};
-ghost use Rattle.book.specs.Layout.{headerOf, wordsOfHeader, entryAt, wordsOf, held};
+ghost use Rattle.book.specs.Layout.{entryWords, headerOf, wordsOfHeader, entryAt, wordsOf, held};
 use crate::Entry;
 use crate::Header;
 
@@ -15,38 +15,31 @@ fn word_at(words: &[u64], at: usize) -> u64
     if at < words.len() { words[at] } else { 0 }
 }
 
-// The entry that starts at one of the last words, or past them: words past the end count as 0.
-fn cut_entry(words: &[u64], at: usize) -> Entry
+// The entry that starts at a place, where all of its words are there.
+pub fn entry_in(words: &[u64], at: usize) -> Entry
+    requires { ⌜ at + entryWords ≤ length (now words) ⌝ }
     ensures { λ r. ⌜ r ≡ entryAt (now (words .entry)) at ⌝ }
 {
-    if words.len() <= at {
-        return Entry {
-            key: 0,
-            day: 0,
-            offer: 0,
-        };
-    }
     Entry {
         key: words[at],
-        day: word_at(words, at + 1),
-        offer: word_at(words, at + 2),
+        day: words[at + 1],
+        offer: words[at + 2],
     }
 }
 
-// The entry that starts at a place; words past the end count as 0.
-pub fn entry_at(words: &[u64], at: usize) -> Entry
+// The entry that starts at a place; words past the end count as 0. A place of 32 bits has one test and no end of its own.
+pub fn entry_at(words: &[u64], at: u32) -> Entry
     ensures { λ r. ⌜ r ≡ entryAt (now (words .entry)) at ⌝ }
 {
-    if crate::ENTRY_WORDS <= words.len() {
-        if at <= words.len() - crate::ENTRY_WORDS {
-            return Entry {
-                key: words[at],
-                day: words[at + 1],
-                offer: words[at + 2],
-            };
-        }
+    let from = at as usize;
+    if from + crate::ENTRY_WORDS <= words.len() {
+        return entry_in(words, from);
     }
-    cut_entry(words, at)
+    Entry {
+        key: word_at(words, from),
+        day: word_at(words, from + 1),
+        offer: word_at(words, from + 2),
+    }
 }
 
 // Sets the word at a place, where there is one.
@@ -58,31 +51,20 @@ fn put_word(words: &mut [u64], at: usize, word: u64)
     }
 }
 
-// Writes an entry at one of the last words, as far as there are words for it.
-fn write_cut(words: &mut [u64], at: usize, e: Entry)
+// Writes an entry at a place, as far as there are words for it.
+pub fn write_entry(words: &mut [u64], at: u32, e: Entry)
     ensures { λ _. ⌜ now (words .exit) ≡ sets (now (words .entry)) at (wordsOf (e ∷ [])) ⌝ }
 {
-    if words.len() <= at {
+    let from = at as usize;
+    if from + crate::ENTRY_WORDS <= words.len() {
+        words[from] = e.key;
+        words[from + 1] = e.day;
+        words[from + 2] = e.offer;
         return;
     }
-    put_word(words, at, e.key);
-    put_word(words, at + 1, e.day);
-    put_word(words, at + 2, e.offer);
-}
-
-// Writes an entry at a place, as far as there are words for it.
-pub fn write_entry(words: &mut [u64], at: usize, e: Entry)
-    ensures { λ _. ⌜ now (words .exit) ≡ sets (now (words .entry)) at (wordsOf (e ∷ [])) ⌝ }
-{
-    if crate::ENTRY_WORDS <= words.len() {
-        if at <= words.len() - crate::ENTRY_WORDS {
-            words[at] = e.key;
-            words[at + 1] = e.day;
-            words[at + 2] = e.offer;
-            return;
-        }
-    }
-    write_cut(words, at, e);
+    put_word(words, from, e.key);
+    put_word(words, from + 1, e.day);
+    put_word(words, from + 2, e.offer);
 }
 
 // The header words.

@@ -7,7 +7,7 @@ ghost use lib.ListN.{length};
 ghost use lib.Seq.{sets};
 ghost use Rattle.rate.specs.Time.{isReceivedDay};
 ghost use Rattle.notice.specs.Layout.{encodeLines};
-ghost use Rattle.book.specs.Layout.{entryWords, entriesFrom, entriesOf};
+ghost use Rattle.book.specs.Layout.{entriesFrom, entriesOf};
 ghost use Rattle.book.specs.Soundness.{sound};
 ghost use Rattle.listing.specs.List.{standingLines, listOf, listed, listAnswer, listBytes};
 ghost use Rattle.listing.specs.Pass.{stands, entryLine, addedBy};
@@ -37,8 +37,7 @@ fn refused(e: u64) -> Listed
 }
 
 // Whether an entry is its code's status on a day, and that is not closed. The `left` entries at `at` are those after it.
-fn is_standing(words: &[u64], at: usize, left: usize, e: Entry, day: u64) -> bool
-    requires { ⌜ at + left * entryWords ≤ length (now words) ⌝ }
+fn is_standing(words: &[u64], at: u32, left: usize, e: Entry, day: u64) -> bool
     ensures { λ r. ⌜ r ≡ stands e (entriesFrom (now (words .entry)) at left) day ⌝ }
 {
     if day < e.day {
@@ -76,8 +75,7 @@ fn line_of(e: Entry) -> Line
 }
 
 // How many lines an entry adds to the list.
-fn added_lines(words: &[u64], at: usize, left: usize, e: Entry, day: u64) -> usize
-    requires { ⌜ at + left * entryWords ≤ length (now words) ⌝ }
+fn added_lines(words: &[u64], at: u32, left: usize, e: Entry, day: u64) -> usize
     ensures { λ r. ⌜ r ≡ length (addedBy e (entriesFrom (now (words .entry)) at left) day) ⌝ }
 {
     if !is_standing(words, at, left, e, day) {
@@ -87,8 +85,7 @@ fn added_lines(words: &[u64], at: usize, left: usize, e: Entry, day: u64) -> usi
 }
 
 // How many bytes an entry adds to the list.
-fn added_size(words: &[u64], at: usize, left: usize, e: Entry, day: u64) -> usize
-    requires { ⌜ at + left * entryWords ≤ length (now words) ⌝ }
+fn added_size(words: &[u64], at: u32, left: usize, e: Entry, day: u64) -> usize
     ensures { λ r. ⌜ r ≡ length (encodeLines (addedBy e (entriesFrom (now (words .entry)) at left) day)) ⌝ }
 {
     if !is_standing(words, at, left, e, day) {
@@ -100,14 +97,13 @@ fn added_size(words: &[u64], at: usize, left: usize, e: Entry, day: u64) -> usiz
 // Writes what an entry adds to the list at a place of the lent bytes, and gives the place after it.
 fn write_at(
     words: &[u64],
-    at: usize,
+    at: u32,
     left: usize,
     e: Entry,
     day: u64,
     out: &mut [u8],
     from: usize,
 ) -> usize
-    requires { ⌜ at + left * entryWords ≤ length (now words) ⌝ }
     requires { ⌜ from + length (encodeLines (addedBy e (entriesFrom (now words) at left) day)) ≤ length (now out) ⌝ }
     ensures { λ r. ⌜ r ≡ from + length (encodeLines (addedBy e (entriesFrom (now (words .entry)) at left) day)) ⌝ }
     ensures { λ _. ⌜ now (out .exit) ≡ sets (now (out .entry)) from
@@ -129,11 +125,11 @@ fn count_lines(words: &[u64], day: u64) -> usize
     ensures { λ r. ⌜ r ≡ length (standingLines (entriesOf (now (words .entry))) day) ⌝ }
 {
     let mut lines: usize = 0;
-    let mut at = book::HEADER_WORDS;
+    let mut at = book::HEADER_WORDS as u32;
     let mut left = book::headed_count(words);
     while 0 < left {
         let e = book::entry_at(words, at);
-        at += book::ENTRY_WORDS;
+        at += book::ENTRY_WORDS as u32;
         left -= 1;
         lines += added_lines(words, at, left, e, day);
     }
@@ -146,11 +142,11 @@ fn lines_size(words: &[u64], day: u64) -> usize
     ensures { λ r. ⌜ r ≡ length (encodeLines (standingLines (entriesOf (now (words .entry))) day)) ⌝ }
 {
     let mut size: usize = 0;
-    let mut at = book::HEADER_WORDS;
+    let mut at = book::HEADER_WORDS as u32;
     let mut left = book::headed_count(words);
     while 0 < left {
         let e = book::entry_at(words, at);
-        at += book::ENTRY_WORDS;
+        at += book::ENTRY_WORDS as u32;
         left -= 1;
         size += added_size(words, at, left, e, day);
     }
@@ -179,11 +175,11 @@ fn write_lines(words: &[u64], day: u64, out: &mut [u8], from: usize) -> usize
         (encodeLines (standingLines (entriesOf (now (words .entry))) day)) ⌝ }
 {
     let mut end = from;
-    let mut at = book::HEADER_WORDS;
+    let mut at = book::HEADER_WORDS as u32;
     let mut left = book::headed_count(words);
     while 0 < left {
         let e = book::entry_at(words, at);
-        at += book::ENTRY_WORDS;
+        at += book::ENTRY_WORDS as u32;
         left -= 1;
         end = write_at(words, at, left, e, day, out, end);
     }

@@ -11,7 +11,7 @@ use borrow.Author.Tests.{eq-eqb, ne-eqb, lt-leb, lt-ltb, le-ltb}
 use lib.Dec.{eqb, leb, ltb}
 use lib.ListN.{length}
 use Rattle.dial_code.proofs.Tests.{below, equal, above, order}
-use Rattle.book.specs.Layout.{headerWords, entryWords, countOf, entry, entryAt, entriesFrom, entriesOf}
+use Rattle.book.specs.Layout.{headerWords, entryWords, mostEntries, countOf, entry, entryAt, entriesFrom, entriesOf}
 use Rattle.lookup.specs.Search.{notAfter, halved, upTo, foundUpTo, lastEntry, ownWord}
 use Rattle.book.specs.Soundness.{sound}
 use Rattle.book.specs.Status.{statusFrom, statusIn}
@@ -134,13 +134,13 @@ pub tested :
     → upTo ws k d i ≡ u
 tested ws k d i q r s = ap (λ (x : Entry). notAfter x k d) (sym q) ∙ sym r ∙ s
 
--- What is found among entries that have words has words too.
-pub found-room :
+-- What is found is no more than there is.
+pub found-few :
     (ws : List ℕ) (count k d : ℕ) {n : ℕ}
-    → count * entryWords ≤ length ws - headerWords
+    → count ≤ mostEntries
     → n ≡ foundUpTo ws count k d
-    → n * entryWords ≤ length ws - headerWords
-found-room ws count k d h e = omega (arith, found-most ws count k d e)
+    → n ≤ mostEntries
+found-few ws count k d h e = omega (arith, found-most ws count k d e)
 
 -- The last of some entries, by the test of the code.
 module _ (ws : List ℕ) (n : ℕ) where

@@ -1,9 +1,8 @@
 // What a number costs on a day (document 01, "The book"): the longest match of a code or number, searched for by halving.
 ghost use mathlib.Core.Path.{_≡_};
-ghost use Prim.Native.Nat.{_-_, _*_, _≤_, min};
-ghost use lib.ListN.{length};
+ghost use Prim.Native.Nat.{_-_, _≤_, min};
 ghost use Rattle.rate.specs.OfferWord.{offerOf};
-ghost use Rattle.book.specs.Layout.{headerWords, entryWords};
+ghost use Rattle.book.specs.Layout.{mostEntries};
 ghost use Rattle.book.specs.Status.{heldOffer};
 ghost use Rattle.lookup.specs.Match.{isStanding};
 ghost use Rattle.lookup.specs.Search.{notAfter, foundUpTo, lastEntry, ownWord, bestFound};
@@ -40,14 +39,14 @@ fn is_not_after(e: Entry, key: u64, day: u64) -> bool
 
 // How many of the first entries stand no later than a code and a day, found by halving.
 fn entries_up_to(words: &[u64], count: usize, key: u64, day: u64) -> usize
-    requires { ⌜ count * entryWords ≤ length (now words) - headerWords ⌝ }
+    requires { ⌜ count ≤ mostEntries ⌝ }
     ensures { λ r. ⌜ r ≡ foundUpTo (now (words .entry)) count key day ⌝ }
 {
     let mut lo: usize = 0;
     let mut hi = count;
     while lo < hi {
         let mid = lo + (hi - lo) / 2;
-        let e = book::entry_at(words, book::HEADER_WORDS + mid * book::ENTRY_WORDS);
+        let e = book::entry_at(words, (book::HEADER_WORDS + mid * book::ENTRY_WORDS) as u32);
         if is_not_after(e, key, day) {
             lo = mid + 1;
         } else {
@@ -59,7 +58,7 @@ fn entries_up_to(words: &[u64], count: usize, key: u64, day: u64) -> usize
 
 // The last of so many entries, and one of zeros where there is none.
 fn last_entry(words: &[u64], count: usize) -> Entry
-    requires { ⌜ count * entryWords ≤ length (now words) - headerWords ⌝ }
+    requires { ⌜ count ≤ mostEntries ⌝ }
     ensures { λ r. ⌜ r ≡ lastEntry (now (words .entry)) count ⌝ }
 {
     if count == 0 {
@@ -69,7 +68,10 @@ fn last_entry(words: &[u64], count: usize) -> Entry
             offer: 0,
         };
     }
-    book::entry_at(words, book::HEADER_WORDS + (count - 1) * book::ENTRY_WORDS)
+    book::entry_at(
+        words,
+        (book::HEADER_WORDS + (count - 1) * book::ENTRY_WORDS) as u32,
+    )
 }
 
 // The offer word of an entry where it is the code's, and closed where it is another's.

@@ -8,7 +8,7 @@ use lib.Seq.{sets}
 use Rattle.dial_code.specs.Key.{keysEnd}
 use Rattle.notice.specs.NoticeRule.{mostLines}
 use Rattle.notice.specs.declared.Line.{Line}
-use Rattle.book.specs.Layout.{headerWords, entryWords, mostEntries, latestOf, entriesFrom, wordsOf}
+use Rattle.book.specs.Layout.{headerWords, entryWords, mostEntries, mostWords, latestOf, entriesFrom, wordsOf}
 use Rattle.book.specs.Soundness.{headedCount}
 use Rattle.book.specs.declared.Entry.{Entry}
 use Rattle.effect.specs.Lines.{foundIn, changesBy, latestBy}
@@ -52,21 +52,21 @@ mergedLeaves write ws p marks s start lines new =
     stored write new headerWords (wordsOf (mergedBy ws p marks (sent s start lines)))
 
 -- A place in the old entries: its numbers stay small.
-abbrev pub stands : List ℕ → Place → Type 0
-stands ws from =
-    (from .at + from .left * entryWords ≤ length ws + headerWords) × (from .count + 2 * from .left ≤ mostMerged)
+abbrev pub stands : Place → Type 0
+stands from =
+    (from .at + from .left * entryWords ≤ mostWords) × (from .count + 2 * from .left ≤ mostMerged)
 
 -- What a pass over old entries comes to: from one place to another it has put some entries, and leaves the rest.
 pub record Passed (ws : List ℕ) (from to : Place) (put rest : List Entry) : Type 0 where
   pub counted : to .count ≡ from .count + length put
-  pub stands : to .at + to .left * entryWords ≤ length ws + headerWords
+  pub stands : to .at + to .left * entryWords ≤ mostWords
   pub fewer : to .left ≤ from .left
   pub left : entriesFrom ws (to .at) (to .left) ≡ rest
 
 -- A pass over the entries of a listed code.
 pub record PassedListed (ws : List ℕ) (from : Place) (to : Kept) (change : Entry) (es : List Entry) : Type 0 where
   pub counted : to .count ≡ from .count + length (keptOf change es)
-  pub stands : to .at + to .left * entryWords ≤ length ws + headerWords
+  pub stands : to .at + to .left * entryWords ≤ mostWords
   pub fewer : to .left ≤ from .left
   pub left : entriesFrom ws (to .at) (to .left) ≡ restAfter (change .key) es
   pub status : to .status ≡ statusOf change 0 es

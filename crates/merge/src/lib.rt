@@ -20,14 +20,14 @@ pub struct Merged {
 
 // Where a merge stands: the place of the next old entry, how many are left, and how many entries the new book has so far.
 struct Place {
-    at: usize,
+    at: u32,
     left: usize,
     count: usize,
 }
 
 // The same after the entries of a listed code, with the code's status so far.
 struct Kept {
-    at: usize,
+    at: u32,
     left: usize,
     count: usize,
     status: u64,
@@ -45,12 +45,16 @@ fn put(new: &mut [u64], count: usize, e: Entry, write: bool)
     ensures { λ _. ⌜ now (new .exit) ≡ stored write (now (new .entry)) (headerWords + count * entryWords) (wordsOf (e ∷ [])) ⌝ }
 {
     if write {
-        book::write_entry(new, book::HEADER_WORDS + count * book::ENTRY_WORDS, e);
+        book::write_entry(
+            new,
+            (book::HEADER_WORDS + count * book::ENTRY_WORDS) as u32,
+            e,
+        );
     }
 }
 
 // Whether the entry after one is of the same code and before a day.
-fn goes_on(old: &[u64], at: usize, left: usize, e: Entry, day: u64) -> bool
+fn goes_on(old: &[u64], at: u32, left: usize, e: Entry, day: u64) -> bool
     ensures { λ r. ⌜ r ≡ goesOn day e (entriesFrom (now (old .entry)) at left) ⌝ }
 {
     if left == 0 {
@@ -67,7 +71,7 @@ fn goes_on(old: &[u64], at: usize, left: usize, e: Entry, day: u64) -> bool
 // it. Answers how many entries the new book then has.
 fn put_unlisted(
     old: &[u64],
-    at: usize,
+    at: u32,
     left: usize,
     e: Entry,
     closed: bool,
@@ -115,7 +119,7 @@ fn pass_unlisted(
     new: &mut [u64],
     write: bool,
 ) -> Place
-    requires { ⌜ stands (now old) from ⌝ }
+    requires { ⌜ stands from ⌝ }
     ensures { λ r. ⌜ Passed (now (old .entry)) from r (gapBelow below (closesBy plan (now (marks .entry))) (plan .closing)
         (entriesFrom (now (old .entry)) (from .at) (from .left))) (restFrom below (entriesFrom (now (old .entry)) (from .at)
         (from .left))) ⌝ }
@@ -136,7 +140,7 @@ fn pass_unlisted(
         if !country_code::is_within(keys, e.key) {
             alike = effect::closed_range(plan, marks, e.key);
         }
-        at += book::ENTRY_WORDS;
+        at += book::ENTRY_WORDS as u32;
         left -= 1;
         count = put_unlisted(old, at, left, e, alike.closed, day, new, count, write);
     }
@@ -145,7 +149,7 @@ fn pass_unlisted(
 
 // Keeps the entries of a listed code that stand before its line's effective day.
 fn keep_listed(old: &[u64], from: Place, change: Entry, new: &mut [u64], write: bool) -> Kept
-    requires { ⌜ stands (now old) from ⌝ }
+    requires { ⌜ stands from ⌝ }
     ensures { λ r. ⌜ PassedListed (now (old .entry)) from r change (entriesFrom (now (old .entry)) (from .at) (from .left)) ⌝ }
     ensures { λ _. ⌜ now (new .exit) ≡ stored write (now (new .entry)) (headerWords + from .count * entryWords) (wordsOf (keptOf change
         (entriesFrom (now (old .entry)) (from .at) (from .left)))) ⌝ }
@@ -164,7 +168,7 @@ fn keep_listed(old: &[u64], from: Place, change: Entry, new: &mut [u64], write: 
                 status,
             };
         }
-        at += book::ENTRY_WORDS;
+        at += book::ENTRY_WORDS as u32;
         left -= 1;
         if e.day < change.day {
             put(new, count, e, write);
@@ -182,7 +186,7 @@ fn keep_listed(old: &[u64], from: Place, change: Entry, new: &mut [u64], write: 
 
 // Passes the entries of a listed code, and puts its line's change after those that stay.
 fn pass_listed(old: &[u64], from: Place, change: Entry, new: &mut [u64], write: bool) -> Place
-    requires { ⌜ stands (now old) from ⌝ }
+    requires { ⌜ stands from ⌝ }
     ensures { λ r. ⌜ Passed (now (old .entry)) from r (listedGroup change 0 (entriesFrom (now (old .entry)) (from .at) (from
         .left))) (restAfter (change .key) (entriesFrom (now (old .entry)) (from .at) (from .left))) ⌝ }
     ensures { λ _. ⌜ now (new .exit) ≡ stored write (now (new .entry)) (headerWords + from .count * entryWords) (wordsOf (listedGroup change 0
@@ -214,7 +218,7 @@ fn pass_line(
     new: &mut [u64],
     write: bool,
 ) -> Place
-    requires { ⌜ stands (now old) from ⌝ }
+    requires { ⌜ stands from ⌝ }
     ensures { λ r. ⌜ Passed (now (old .entry)) from r (lineEntries change (closesBy plan (now (marks .entry))) (plan .closing)
         (entriesFrom (now (old .entry)) (from .at) (from .left))) (lineRest change (entriesFrom (now (old .entry)) (from .at)
         (from .left))) ⌝ }
@@ -243,7 +247,7 @@ pub fn merge(
         (now (new .entry)) ⌝ }
 {
     let mut place = Place {
-        at: book::HEADER_WORDS,
+        at: book::HEADER_WORDS as u32,
         left: book::headed_count(old),
         count: 0,
     };

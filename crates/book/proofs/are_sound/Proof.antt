@@ -26,8 +26,8 @@ abbrev μ-loop : tie.MeasureT-loop
 returns : tie.Need-returns Inv-loop μ-loop
 returns c = sym (sound-none _ _ _ (c .if1 .taken))
 
-entry-at-requires : tie.Need-entry-at-requires Inv-loop μ-loop
-entry-at-requires c κs = search needs
+entry-in-requires : tie.Need-entry-in-requires Inv-loop μ-loop
+entry-in-requires c κs = search needs
 
 can-begin-requires : tie.Need-can-begin-requires Inv-loop μ-loop
 can-begin-requires c κs = search needs
@@ -36,7 +36,7 @@ returns-2 : tie.Need-returns-2 Inv-loop μ-loop
 returns-2 c =
     let p = c .before .before in
     sym
-    (sound-first _ _ (omega arith) (p .entry-at .ensures)
+    (sound-first _ _ (omega arith) (p .entry-in .ensures)
     ∙ and-left-false _ (sym (c .before .can-begin .ensures) ∙ not-true _ (c .if2 .taken)))
 
 add-at : tie.Need-add-at Inv-loop μ-loop
@@ -50,12 +50,12 @@ loop-holds c =
     let p = c .before .before in
     let b = sym (c .before .can-begin .ensures) ∙ not-false _ (c .if2 .left) in (
       omega arith,
-      sound-first _ _ (omega arith) (p .entry-at .ensures) ∙ and-left-true _ b,
+      sound-first _ _ (omega arith) (p .entry-in .ensures) ∙ and-left-true _ b,
       begins-facts _ b .1,
     )
 
-entry-at-requires-2 : tie.Need-entry-at-requires-2 Inv-loop μ-loop
-entry-at-requires-2 c κs = search needs
+entry-in-requires-2 : tie.Need-entry-in-requires-2 Inv-loop μ-loop
+entry-in-requires-2 c κs = search needs
 
 can-follow-requires : tie.Need-can-follow-requires Inv-loop μ-loop
 can-follow-requires c κs = c .before .before .loop .inv .2 .code
@@ -65,7 +65,7 @@ returns-3 c =
     let p = c .before .before in
     sym
     (p .before .before .loop .inv .1
-    ∙ sound-turn _ _ _ _ (p .before .loop-test .taken) (p .entry-at2 .ensures)
+    ∙ sound-turn _ _ _ _ (p .before .loop-test .taken) (p .entry-in2 .ensures)
     ∙ and-left-false _ (sym (c .before .can-follow .ensures) ∙ not-true _ (c .if3 .taken)))
 
 add-at-2 : tie.Need-add-at-2 Inv-loop μ-loop
@@ -83,7 +83,7 @@ loop-again c =
     let l = p .before .before .loop in
     let f = sym (c .before .can-follow .ensures) ∙ not-false _ (c .if3 .left) in (
       omega arith,
-      l .inv .1 ∙ sound-turn _ _ _ _ (p .before .loop-test .taken) (p .entry-at2 .ensures) ∙ and-left-true _ f,
+      l .inv .1 ∙ sound-turn _ _ _ _ (p .before .loop-test .taken) (p .entry-in2 .ensures) ∙ and-left-true _ f,
       follows-facts _ _ (l .inv .2) f .1,
     )
 
@@ -97,13 +97,13 @@ are-sound-spec =
     Inv-loop
     μ-loop
     returns
-    entry-at-requires
+    entry-in-requires
     can-begin-requires
     returns-2
     add-at
     sub-left
     loop-holds
-    entry-at-requires-2
+    entry-in-requires-2
     can-follow-requires
     returns-3
     add-at-2

@@ -1,6 +1,6 @@
 -- `book::is_headed` meets its contract. Assumes nothing.
 use mathlib.Core.Path.{ap, sym}
-use Prim.Native.Nat.{_-_, _/_}
+use Prim.Native.Nat.{_-_}
 use native.Mathlib.Omega.{arith}
 use borrow.Author.Needs.{needs}
 use borrow.Author.Needs.{needs}

@@ -1,5 +1,5 @@
 -- `effect::closed_anyway` meets its contract. Assumes nothing.
-use Prim.Native.Nat.{_-_, _/_}
+use Prim.Native.Nat.{_-_}
 use Rattle.effect.proofs.closed_anyway.Statement.{statement}
 use Rattle.effect.proofs.closed_anyway.Tie as tie
 use Rattle.effect.proofs.ClosingLaws.{anyway-full, anyway-update, anyway-none}

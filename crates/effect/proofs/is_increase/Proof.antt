@@ -1,5 +1,5 @@
 -- `effect::is_increase` meets its contract. Assumes nothing.
-use Prim.Native.Nat.{_-_, _/_}
+use Prim.Native.Nat.{_-_}
 use borrow.Author.Needs.{needs}
 use borrow.Author.Needs.{needs}
 use Rattle.effect.proofs.is_increase.Statement.{statement}

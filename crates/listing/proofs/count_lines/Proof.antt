@@ -7,7 +7,7 @@ use borrow.Author.Needs.{needs}
 use lib.ListN.{length}
 use Rattle.listing.proofs.count_lines.Statement.{statement}
 use Rattle.listing.proofs.count_lines.Tie as tie
-use Rattle.book.specs.Layout.{entryWords, entriesFrom, entriesOf}
+use Rattle.book.specs.Layout.{mostWords, entryWords, entriesFrom, entriesOf}
 use Rattle.book.proofs.Headers.{sound-book, sound-count}
 use Rattle.listing.specs.List.{standingLines}
 use Rattle.listing.proofs.Passing.{passed}
@@ -15,7 +15,7 @@ use Rattle.listing.proofs.Turns.{count-row, none-left, whole, few}
 
 abbrev Inv-loop : tie.InvT-loop
 Inv-loop words day lines₀ at₀ left₀ lines at left =
-    (at + left * entryWords ≤ length words)
+    (at + left * entryWords ≤ mostWords)
     × (lines + length (passed (entriesFrom words at left) day) ≡ length (standingLines (entriesOf words) day))
 
 abbrev μ-loop : tie.MeasureT-loop
@@ -42,7 +42,7 @@ loop-holds : tie.Need-loop-holds Inv-loop μ-loop
 loop-holds c =
     let s = c .before .before .pre in
     let w = whole (c .before .before .args .words .now) (c .before .before .args .day) s (c .headed-count .ensures) in
-    (omega (arith, sound-book _ s .header .room, sound-count _ s, c .headed-count .ensures), omega (arith, ap length w))
+    (omega (arith, sound-book _ s .header .count-most, sound-count _ s, c .headed-count .ensures), omega (arith, ap length w))
 
 entry-at-requires : tie.Need-entry-at-requires Inv-loop μ-loop
 entry-at-requires c κs = search needs
@@ -74,15 +74,23 @@ returns c =
     let n = none-left (a .words .now) (l .at) (l .left) (a .day) (omega arith) in
     omega (arith, l .inv .1, ap length n)
 
+cast-at : tie.Need-cast-at Inv-loop μ-loop
+cast-at c = search needs
+
+cast-at-2 : tie.Need-cast-at-2 Inv-loop μ-loop
+cast-at-2 c = search needs
+
 pub count-lines-spec : {M : Type 1} → statement M
 count-lines-spec =
     tie.close
     (tie.spec
     Inv-loop
     μ-loop
+    cast-at
     headed-count-requires
     loop-holds
     entry-at-requires
+    cast-at-2
     add-at
     sub-left
     added-lines-requires

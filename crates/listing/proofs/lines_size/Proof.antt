@@ -11,7 +11,7 @@ use Rattle.listing.proofs.lines_size.Tie as tie
 use Rattle.notice.specs.Layout.{encodeLines}
 use Rattle.notice.specs.declared.Line.{Line}
 use Rattle.notice.proofs.LayoutLaws.{lines-nil}
-use Rattle.book.specs.Layout.{entryWords, entriesFrom, entriesOf}
+use Rattle.book.specs.Layout.{mostWords, entryWords, entriesFrom, entriesOf}
 use Rattle.book.proofs.Headers.{sound-book, sound-count}
 use Rattle.listing.specs.List.{standingLines}
 use Rattle.listing.proofs.Passing.{passed}
@@ -19,7 +19,7 @@ use Rattle.listing.proofs.Turns.{length-row, none-left, whole, few}
 
 abbrev Inv-loop : tie.InvT-loop
 Inv-loop words day size₀ at₀ left₀ size at left =
-    (at + left * entryWords ≤ length words)
+    (at + left * entryWords ≤ mostWords)
     × (size + length (encodeLines (passed (entriesFrom words at left) day))
     ≡ length (encodeLines (standingLines (entriesOf words) day)))
 
@@ -47,7 +47,7 @@ loop-holds : tie.Need-loop-holds Inv-loop μ-loop
 loop-holds c =
     let s = c .before .before .pre in
     let w = whole (c .before .before .args .words .now) (c .before .before .args .day) s (c .headed-count .ensures) in
-    (omega (arith, sound-book _ s .header .room, sound-count _ s, c .headed-count .ensures), omega (arith, ap (λ (l : List Line). length (encodeLines l)) w))
+    (omega (arith, sound-book _ s .header .count-most, sound-count _ s, c .headed-count .ensures), omega (arith, ap (λ (l : List Line). length (encodeLines l)) w))
 
 entry-at-requires : tie.Need-entry-at-requires Inv-loop μ-loop
 entry-at-requires c κs = search needs
@@ -80,15 +80,23 @@ returns c =
     let n = none-left (a .words .now) (l .at) (l .left) (a .day) (omega arith) in
     omega (arith, l .inv .1, ap (λ (l : List Line). length (encodeLines l)) n, ap length lines-nil)
 
+cast-at : tie.Need-cast-at Inv-loop μ-loop
+cast-at c = search needs
+
+cast-at-2 : tie.Need-cast-at-2 Inv-loop μ-loop
+cast-at-2 c = search needs
+
 pub lines-size-spec : {M : Type 1} → statement M
 lines-size-spec =
     tie.close
     (tie.spec
     Inv-loop
     μ-loop
+    cast-at
     headed-count-requires
     loop-holds
     entry-at-requires
+    cast-at-2
     add-at
     sub-left
     added-size-requires

@@ -24,7 +24,7 @@ line-done c =
     let t = c .before .before .before in
     line-written _ _ _ _ _
     (sym (t .before .is-standing .ensures) ∙ not-false _ (t .if1 .left))
-    (c .before .before .before .before .before .before .before .pre .1)
+    (c .before .before .before .before .before .before .before .pre)
     (c .before .line-of .ensures)
     (c .write-line .ensures .0)
     (c .write-line .ensures .1)

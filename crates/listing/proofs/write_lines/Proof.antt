@@ -9,7 +9,7 @@ use lib.ListN.{length}
 use Rattle.listing.proofs.write_lines.Statement.{statement}
 use Rattle.listing.proofs.write_lines.Tie as tie
 use Rattle.notice.specs.Layout.{encodeLines}
-use Rattle.book.specs.Layout.{entryWords, entriesFrom, entriesOf}
+use Rattle.book.specs.Layout.{mostWords, entryWords, entriesFrom, entriesOf}
 use Rattle.book.proofs.Headers.{sound-book, sound-count}
 use Rattle.listing.specs.List.{standingLines}
 use Rattle.listing.proofs.Passing.{passed}
@@ -20,7 +20,7 @@ use Rattle.notice.proofs.LayoutLaws.{lines-nil}
 
 abbrev Inv-loop : tie.InvT-loop
 Inv-loop words day out₀ from end₀ at₀ left₀ out end at left =
-    (at + left * entryWords ≤ length words)
+    (at + left * entryWords ≤ mostWords)
     × (length out ≡ length out₀)
     × (end + length (encodeLines (passed (entriesFrom words at left) day))
     ≡ from + length (encodeLines (standingLines (entriesOf words) day)))
@@ -38,7 +38,7 @@ loop-holds c =
     let a = c .before .before .before .args in
     let s = c .before .before .before .pre .0 in
     let w = whole (a .words .now) (a .day) s (c .headed-count .ensures) in (
-      omega (arith, sound-book _ s .header .room, sound-count _ s, c .headed-count .ensures),
+      omega (arith, sound-book _ s .header .count-most, sound-count _ s, c .headed-count .ensures),
       refl,
       omega (arith, ap (λ (l : List Line). length (encodeLines l)) w),
       ap (λ (l : List Line). sets (a .out .now) (a .from) (encodeLines l)) (sym w),
@@ -57,7 +57,7 @@ write-at-requires : tie.Need-write-at-requires Inv-loop μ-loop
 write-at-requires c κs =
     let p = c .before .before .before .before .before .before .before in
     let n = length-row _ _ _ (c .before .before .loop-test .taken) (p .args .day) (c .before .entry-at .ensures) in
-    (omega arith, omega (arith, n, p .pre .1))
+    omega (arith, n, p .pre .1)
 
 loop-less : tie.Need-loop-less Inv-loop μ-loop
 loop-less c = search needs
@@ -87,15 +87,23 @@ returns c =
     let z = ap encodeLines n ∙ lines-nil in
     (omega (arith, l .inv .2, ap length z), sym (ap (sets (l .out) (l .end)) z) ∙ l .inv .3)
 
+cast-at : tie.Need-cast-at Inv-loop μ-loop
+cast-at c = search needs
+
+cast-at-2 : tie.Need-cast-at-2 Inv-loop μ-loop
+cast-at-2 c = search needs
+
 pub write-lines-spec : {M : Type 1} → statement M
 write-lines-spec =
     tie.close
     (tie.spec
     Inv-loop
     μ-loop
+    cast-at
     headed-count-requires
     loop-holds
     entry-at-requires
+    cast-at-2
     add-at
     sub-left
     write-at-requires

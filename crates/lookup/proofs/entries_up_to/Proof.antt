@@ -35,6 +35,9 @@ mul-entry-at c = search needs
 add-entry-at : tie.Need-add-entry-at Inv-loop μ-loop
 add-entry-at c = search needs
 
+cast-entry-at : tie.Need-cast-entry-at Inv-loop μ-loop
+cast-entry-at c = search needs
+
 entry-at-requires : tie.Need-entry-at-requires Inv-loop μ-loop
 entry-at-requires c κs = search needs
 
@@ -78,6 +81,7 @@ entries-up-to-spec =
     add-mid
     mul-entry-at
     add-entry-at
+    cast-entry-at
     entry-at-requires
     is-not-after-requires
     add-lo

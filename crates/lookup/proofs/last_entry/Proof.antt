@@ -17,6 +17,9 @@ mul-entry-at c = search needs
 add-entry-at : tie.Need-add-entry-at
 add-entry-at c = search needs
 
+cast-entry-at : tie.Need-cast-entry-at
+cast-entry-at c = search needs
+
 entry-at-requires : tie.Need-entry-at-requires
 entry-at-requires c κs = search needs
 
@@ -25,4 +28,4 @@ returns-2 c = c .entry-at .ensures ∙ sym (some-last _ _ (c .before .if1 .left)
 
 pub last-entry-spec : {M : Type 1} → statement M
 last-entry-spec =
-    tie.close (tie.spec returns sub-entry-at mul-entry-at add-entry-at entry-at-requires returns-2)
+    tie.close (tie.spec returns sub-entry-at mul-entry-at add-entry-at cast-entry-at entry-at-requires returns-2)

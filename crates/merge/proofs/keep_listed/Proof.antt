@@ -5,8 +5,7 @@ use mathlib.Core.List.{[], _∷_}
 use Prim.Native.Nat.{_+_, _-_, _*_, _≤_}
 use native.Mathlib.Omega.{arith}
 use borrow.Author.Needs.{needs}
-use lib.ListN.{length}
-use Rattle.book.specs.Layout.{headerWords, entryWords, entriesFrom}
+use Rattle.book.specs.Layout.{entryWords, mostWords, entriesFrom}
 use Rattle.book.proofs.Rows.{rows-none}
 use Rattle.merge.specs.Passes.{keptOf, statusOf, restAfter}
 use Rattle.merge.proofs.Stores.{Writing, writing-all, writing-same, writing-on}
@@ -17,7 +16,7 @@ use Rattle.merge.proofs.keep_listed.Tie as tie
 
 abbrev Inv-loop : tie.InvT-loop
 Inv-loop old change new₀ write at₀ left₀ count₀ status₀ new at left count status =
-    (at + left * entryWords ≤ length old + headerWords) × (left ≤ left₀) × (count + left ≤ count₀ + left₀)
+    (at + left * entryWords ≤ mostWords) × (left ≤ left₀) × (count + left ≤ count₀ + left₀)
     × Writing write new₀ count₀ (keptOf change (entriesFrom old at₀ left₀)) new count (keptOf change (entriesFrom old at left))
     × (statusOf change status (entriesFrom old at left) ≡ statusOf change 0 (entriesFrom old at₀ left₀))
     × (restAfter (change .key) (entriesFrom old at left) ≡ restAfter (change .key) (entriesFrom old at₀ left₀))
@@ -126,6 +125,9 @@ returns-2 c =
       writing-end (l .inv .3) (k .kept),
     )
 
+cast-at : tie.Need-cast-at Inv-loop μ-loop
+cast-at c = search needs
+
 pub keep-listed-spec : {M : Type 1} → statement M
 keep-listed-spec =
     tie.close
@@ -136,6 +138,7 @@ keep-listed-spec =
     entry-at-requires
     same-length
     returns
+    cast-at
     add-at
     sub-left
     put-requires

@@ -4,8 +4,7 @@ use mathlib.Core.Path.{ap}
 use Prim.Native.Nat.{_+_, _*_, _≤_}
 use native.Mathlib.Omega.{arith}
 use borrow.Author.Needs.{needs}
-use lib.ListN.{length}
-use Rattle.book.specs.Layout.{headerWords, entryWords}
+use Rattle.book.specs.Layout.{entryWords, mostWords}
 use Rattle.book.specs.declared.Header.{Header}
 use Rattle.book.proofs.Headers.{count-room}
 use Rattle.merge.specs.Lines.{linesAt}
@@ -17,7 +16,7 @@ use Rattle.merge.proofs.merge.Tie as tie
 
 abbrev Inv-loop : tie.InvT-loop
 Inv-loop old notice start lines plan marks new₀ write place₀ latest₀ at₀ left₀ new place latest at left =
-    (place .at + place .left * entryWords ≤ length old + headerWords)
+    (place .at + place .left * entryWords ≤ mostWords)
     × (place .count + 2 * place .left + left ≤ mostMerged)
     × Merging old notice plan marks new₀ write (linesAt left₀ notice at₀) new place latest at left
 
@@ -38,7 +37,7 @@ loop-holds c =
     let a = c .before .before .before .before .before .before .args in
     let room = count-room (a .old .now) in
     let n = c .before .before .headed-count .ensures in (
-      omega (arith, room .0, n),
+      omega (arith, room .1, n),
       omega (arith, room .1, n, c .lesser .ensures),
       merge-starts _ _ _ _ _ _ _ _ n (ap (λ (h : Header). h .latest) (c .before .header-of .ensures)),
     )
@@ -115,12 +114,16 @@ returns c =
           (a .write) (a .new .now) (merge-written i h (p .0) (p .1)),
     )
 
+cast-t18 : tie.Need-cast-t18 Inv-loop μ-loop
+cast-t18 c = search needs
+
 pub merge-spec : {M : Type 1} → statement M
 merge-spec =
     tie.close
     (tie.spec
     Inv-loop
     μ-loop
+    cast-t18
     headed-count-requires
     header-of-requires
     lesser-requires

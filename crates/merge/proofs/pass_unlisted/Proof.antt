@@ -7,8 +7,7 @@ use Prim.Native.Nat.{_+_, _-_, _*_, _≤_}
 use native.Mathlib.Omega.{arith}
 use borrow.Author.Needs.{needs}
 use borrow.Author.Tests.{not-false}
-use lib.ListN.{length}
-use Rattle.book.specs.Layout.{headerWords, entryWords, entriesFrom}
+use Rattle.book.specs.Layout.{entryWords, mostWords, entriesFrom}
 use Rattle.book.proofs.Rows.{rows-none}
 use Rattle.merge.specs.Passes.{gapBelow, restFrom, unlistedAs}
 use Rattle.effect.specs.Closings.{closesBy}
@@ -20,7 +19,7 @@ use Rattle.merge.proofs.pass_unlisted.Tie as tie
 
 abbrev Inv-loop : tie.InvT-loop
 Inv-loop old below plan marks new₀ write at₀ left₀ count₀ day alike₀ new at left count alike =
-    (at + left * entryWords ≤ length old + headerWords) × (left ≤ left₀) × (count + 2 * left ≤ count₀ + 2 * left₀)
+    (at + left * entryWords ≤ mostWords) × (left ≤ left₀) × (count + 2 * left ≤ count₀ + 2 * left₀)
     × Writing write new₀ count₀ (gapBelow below (closesBy plan marks) (plan .closing) (entriesFrom old at₀ left₀)) new count
     (gapBelow below (closesBy plan marks) (plan .closing) (entriesFrom old at left))
     × (restFrom below (entriesFrom old at left) ≡ restFrom below (entriesFrom old at₀ left₀))
@@ -140,6 +139,9 @@ returns-2 c =
       writing-end (l .inv .3) none,
     )
 
+cast-at : tie.Need-cast-at Inv-loop μ-loop
+cast-at c = search needs
+
 pub pass-unlisted-spec : {M : Type 1} → statement M
 pass-unlisted-spec =
     tie.close
@@ -153,6 +155,7 @@ pass-unlisted-spec =
     returns
     is-within-requires
     closed-range-requires
+    cast-at
     add-at
     sub-left
     put-unlisted-requires

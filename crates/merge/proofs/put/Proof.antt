@@ -1,5 +1,5 @@
 -- `merge::put` meets its contract. Assumes nothing.
-use Prim.Native.Nat.{_-_, _/_}
+use Prim.Native.Nat.{_-_}
 use borrow.Author.Needs.{needs}
 use borrow.Author.Needs.{needs}
 use Rattle.merge.proofs.put.Statement.{statement}
@@ -23,7 +23,17 @@ returns c = rw (c .before .before .before .before .if1 .taken) (c .before .befor
 returns-2 : tie.Need-returns-2
 returns-2 c = search needs
 
+cast-write-entry : tie.Need-cast-write-entry
+cast-write-entry c = search needs
+
 pub put-spec : {M : Type 1} → statement M
 put-spec =
     tie.close
-    (tie.spec mul-write-entry add-write-entry write-entry-requires same-length returns returns-2)
+    (tie.spec
+    mul-write-entry
+    add-write-entry
+    cast-write-entry
+    write-entry-requires
+    same-length
+    returns
+    returns-2)

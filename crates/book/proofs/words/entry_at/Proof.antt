@@ -1,5 +1,4 @@
 -- `book::words::entry_at` meets its contract. Assumes nothing.
-use mathlib.Core.Path.{refl}
 use Prim.Native.Nat.{_-_}
 use borrow.Author.Needs.{needs}
 use borrow.Author.Needs.{needs}
@@ -7,56 +6,44 @@ use Rattle.book.proofs.words.entry_at.Statement.{statement}
 use Rattle.book.proofs.words.entry_at.Tie as tie
 use Rattle.book.specs.Layout.{entryAt}
 
-sub-if2 : tie.Need-sub-if2
-sub-if2 c = search needs
+add-if1 : tie.Need-add-if1
+add-if1 c = search needs
 
-mul-t8 : tie.Need-mul-t8
-mul-t8 c = search needs
-
-shared-slice-read-t10 : tie.Need-shared-slice-read-t10
-shared-slice-read-t10 c = search needs
-
-add-t11 : tie.Need-add-t11
-add-t11 c = search needs
-
-mul-t12 : tie.Need-mul-t12
-mul-t12 c = search needs
-
-shared-slice-read-t14 : tie.Need-shared-slice-read-t14
-shared-slice-read-t14 c = search needs
-
-add-t15 : tie.Need-add-t15
-add-t15 c = search needs
-
-mul-t16 : tie.Need-mul-t16
-mul-t16 c = search needs
-
-shared-slice-read-t18 : tie.Need-shared-slice-read-t18
-shared-slice-read-t18 c = search needs
+entry-in-requires : tie.Need-entry-in-requires
+entry-in-requires c κs = search needs
 
 returns : tie.Need-returns
-unfolding entryAt
-returns c = refl
+returns c = search needs
 
-cut-entry-requires : tie.Need-cut-entry-requires
-cut-entry-requires c κs = search needs
+word-at-requires : tie.Need-word-at-requires
+word-at-requires c κs = search needs
+
+add-word-at : tie.Need-add-word-at
+add-word-at c = search needs
+
+word-at-requires-2 : tie.Need-word-at-requires-2
+word-at-requires-2 c κs = search needs
+
+add-word-at-2 : tie.Need-add-word-at-2
+add-word-at-2 c = search needs
+
+word-at-requires-3 : tie.Need-word-at-requires-3
+word-at-requires-3 c κs = search needs
 
 returns-2 : tie.Need-returns-2
-returns-2 c = search needs
+unfolding entryAt
+returns-2 c = rw (c .before .before .word-at .ensures, c .before .word-at2 .ensures, c .word-at3 .ensures)
 
 pub entry-at-spec : {M : Type 1} → statement M
 entry-at-spec =
     tie.close
     (tie.spec
-    sub-if2
-    mul-t8
-    shared-slice-read-t10
-    add-t11
-    mul-t12
-    shared-slice-read-t14
-    add-t15
-    mul-t16
-    shared-slice-read-t18
+    add-if1
+    entry-in-requires
     returns
-    cut-entry-requires
+    word-at-requires
+    add-word-at
+    word-at-requires-2
+    add-word-at-2
+    word-at-requires-3
     returns-2)

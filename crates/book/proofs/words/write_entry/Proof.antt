@@ -1,15 +1,17 @@
 -- `book::words::write_entry` meets its contract. Assumes nothing.
-use Prim.Native.Nat.{_-_}
+use mathlib.Core.Path.{ap, _∙_}
+use mathlib.Core.List.{List}
+use Prim.Native.Nat.{ℕ, _+_, _-_}
 use native.Mathlib.Omega.{arith}
 use borrow.Author.Needs.{needs}
-use lib.ListN.{length-set}
+use lib.ListN.{set, length-set}
 use borrow.Author.Needs.{needs}
 use Rattle.book.proofs.words.write_entry.Statement.{statement}
 use Rattle.book.proofs.words.write_entry.Tie as tie
 use Rattle.book.proofs.Places.{one-stored}
 
-sub-if2 : tie.Need-sub-if2
-sub-if2 c = search needs
+add-if1 : tie.Need-add-if1
+add-if1 c = search needs
 
 mul-words : tie.Need-mul-words
 mul-words c = search needs
@@ -40,23 +42,41 @@ same-length c = search needs
 
 returns : tie.Need-returns
 returns c =
-    let a = c .before .before .before .args in
+    let a = c .before .before .args in
     one-stored (a .words .now) (a .at) (a .e)
 
-write-cut-requires : tie.Need-write-cut-requires
-write-cut-requires c κs = search needs
+put-word-requires : tie.Need-put-word-requires
+put-word-requires c κs = search needs
+
+add-put-word : tie.Need-add-put-word
+add-put-word c = search needs
+
+put-word-requires-2 : tie.Need-put-word-requires-2
+put-word-requires-2 c κs = search needs
+
+add-put-word-2 : tie.Need-add-put-word-2
+add-put-word-2 c = search needs
+
+put-word-requires-3 : tie.Need-put-word-requires-3
+put-word-requires-3 c κs = search needs
 
 same-length-2 : tie.Need-same-length-2
 same-length-2 c = search needs
 
 returns-2 : tie.Need-returns-2
-returns-2 c = search needs
+returns-2 c =
+    let a = c .before .before .before .before .before .before .before .before .before .before .before .before .before .before .args in
+    c .before .before .put-word3 .ensures
+    ∙ ap (λ (l : List ℕ). set l (a .at + 2) (a .e .offer))
+    (c .before .before .before .before .before .before .put-word2 .ensures
+    ∙ ap (λ (l : List ℕ). set l (a .at + 1) (a .e .day)) (c .before .before .before .before .before .before .before .before .before .before .put-word .ensures))
+    ∙ one-stored (a .words .now) (a .at) (a .e)
 
 pub write-entry-spec : {M : Type 1} → statement M
 write-entry-spec =
     tie.close
     (tie.spec
-    sub-if2
+    add-if1
     mul-words
     slice-write-words
     add-words
@@ -67,6 +87,10 @@ write-entry-spec =
     slice-write-words-3
     same-length
     returns
-    write-cut-requires
+    put-word-requires
+    add-put-word
+    put-word-requires-2
+    add-put-word-2
+    put-word-requires-3
     same-length-2
     returns-2)
