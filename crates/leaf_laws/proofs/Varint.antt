@@ -1,14 +1,17 @@
 -- The laws of varint, stated again in full: numbers in groups of seven bits (document 01, "Notice layout"). Assumes nothing.
 use mathlib.Core.Path.{_≡_}
+use mathlib.Core.Bool.{true}
 use mathlib.Core.Logic.{_⊎_, _↔_}
-use mathlib.Core.List.{List, _++_}
+use mathlib.Core.List.{List, _∷_, _++_}
 use Prim.Native.Nat.{ℕ, _+_, _^_, _≤_, _<_}
 use lib.ListN.{length, getD, take, drop}
 use Rattle.refusal.specs.Refusal.{bytesEnd, notShortest}
 use Rattle.varint.specs.declared.Number.the-variants.{Value, Refused}
 use Rattle.varint.specs.Reading.{from, readNumber}
-use Rattle.varint.specs.Writing.{encode, answer, left}
+use Rattle.varint.specs.Writing.{encode}
+use Rattle.varint.specs.Several.{encodeAll, encodableAll, leavesAll}
 use Rattle.varint.proofs.Laws as laws
+use Rattle.varint.proofs.Several as several
 
 -- Reading and writing are inverse.
 
@@ -17,10 +20,13 @@ pub reads-back : (pre post : List ℕ) (n : ℕ) → n < 2 ^ 63
     → readNumber (pre ++ encode n ++ post) (length pre) ≡ Value n (length pre + length (encode n))
 reads-back = laws.reads-back
 
--- What write_number leaves where there is room reads as the number.
-pub written-reads-back : (s : List ℕ) (at n : ℕ) → n < 2 ^ 63 → at + length (encode n) ≤ length s
-    → readNumber (left (answer (length s) at n) s at n) at ≡ Value n (at + length (encode n))
-written-reads-back = laws.written-reads-back
+-- Each number that write_numbers writes reads as itself, at the place after those before it.
+pub written-reads-back : (s : List ℕ) (at : ℕ) (ms : List ℕ) (n : ℕ) (ns : List ℕ)
+    → encodableAll (ms ++ (n ∷ ns)) ≡ true
+    → at + length (encodeAll (ms ++ (n ∷ ns))) ≤ length s
+    → readNumber (leavesAll s at (ms ++ (n ∷ ns))) (at + length (encodeAll ms))
+    ≡ Value n (at + length (encodeAll ms) + length (encode n))
+written-reads-back = several.written-reads-back
 
 -- A number that is read stands there in its one encoding.
 pub only-encoding : (s : List ℕ) (at n end : ℕ) → ((i : ℕ) → getD s i 0 < 256) → readNumber s at ≡ Value n end

@@ -17,11 +17,11 @@ use Rattle.dial_code.proofs.Tests.{positive}
 use Rattle.rate.specs.Time.{isReceivedDay, lastReceivedDay}
 use Rattle.rate.specs.declared.Day.{Day}
 use Rattle.notice.specs.NoticeRule.{full}
-use Rattle.notice.specs.Layout.{headerFields, encodeHeader, encodeLines}
-use Rattle.notice.specs.declared.Line.{Line}
-use Rattle.notice.proofs.LayoutLaws.{header-bytes, notice-bytes}
-use Rattle.notice.proofs.NoticeBack.{Leads, valid-leads}
-use Rattle.notice.proofs.Sizes.{header-encodable, header-sized}
+use Rattle.notice_writing.specs.Layout.{headerFields, encodeHeader, encodeLines}
+use Rattle.notice_line.specs.declared.Line.{Line}
+use Rattle.notice_writing.proofs.LayoutLaws.{header-bytes, notice-bytes}
+use Rattle.notice_writing.proofs.NoticeBack.{Leads, valid-leads}
+use Rattle.notice_writing.proofs.Sizes.{header-encodable, header-sized}
 use Rattle.book.specs.Layout.{entriesOf}
 use Rattle.book.specs.Soundness.{sound}
 use Rattle.book.specs.Answers.{bookRefusal}

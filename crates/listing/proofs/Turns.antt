@@ -16,10 +16,10 @@ use Rattle.varint.proofs.Several.{writes, sets-append}
 use Rattle.dial_code.proofs.Tests.{and-left-true, and-left-false, and-right-false}
 use Rattle.rate.specs.OfferWord.{offerOf}
 use Rattle.rate.specs.declared.Stored.{Stored}
-use Rattle.notice.specs.LineRule.{lineOf}
-use Rattle.notice.specs.Layout.{lineFields, encodeLines}
-use Rattle.notice.specs.declared.Line.{Line}
-use Rattle.notice.proofs.LayoutLaws.{line-bytes, lines-nil, lines-append}
+use Rattle.notice_line.specs.LineRule.{lineOf}
+use Rattle.notice_writing.specs.Layout.{lineFields, encodeLines}
+use Rattle.notice_line.specs.declared.Line.{Line}
+use Rattle.notice_writing.proofs.LayoutLaws.{line-bytes, lines-nil, lines-append}
 use Rattle.book.specs.Layout.{headerWords, entryWords, mostEntries, countOf, entryAt, entriesFrom, entriesOf}
 use Rattle.book.specs.Soundness.{sound}
 use Rattle.book.specs.Status.{heldOffer}

@@ -7,11 +7,11 @@ use lib.ListN.{length, getD, drop}
 use Rattle.dial_code.specs.CountryCode.{countryOfKey}
 use Rattle.dial_code.specs.declared.Country.the-variants.{Code}
 use Rattle.notice.specs.NoticeRule.{Lines, lines, refused, readLines, Notice, Reading, notice, unread, withHeader, withLines, readHeader, readNotice}
-use Rattle.notice.specs.declared.Line.{Line}
+use Rattle.notice_line.specs.declared.Line.{Line}
 use Rattle.notice.specs.declared.Header.{Header}
 use Rattle.notice.specs.declared.HeaderRead.{HeaderRead}
 use Rattle.notice.specs.declared.HeaderRead.the-variants as header
-use Rattle.notice.proofs.Told.{Known}
+use Rattle.varint.proofs.Told.{Known}
 use Rattle.notice.proofs.HeaderLaws.{Leading, HeaderTold, header-told}
 use Rattle.notice.proofs.LinesLaws.{ValidFrom, LinesTold, lines-told}
 use Rattle.notice.proofs.ValidLines.{keys-rise, all-inside}

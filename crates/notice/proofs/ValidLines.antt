@@ -7,8 +7,8 @@ use native.Mathlib.Omega.{arith}
 use lib.ListN.{length, getD}
 use Rattle.dial_code.specs.CountryCode.{countryOfKey}
 use Rattle.dial_code.specs.declared.Country.the-variants.{Code}
-use Rattle.notice.specs.declared.Line.{Line}
-use Rattle.notice.proofs.LineLaws.{ValidLine}
+use Rattle.notice_line.specs.declared.Line.{Line}
+use Rattle.notice_line.proofs.LineLaws.{ValidLine}
 use Rattle.notice.proofs.LinesLaws.{ValidFrom}
 
 agreed : (named before last : ℕ) (l : Line) → ValidLine named before last l → 0 < named → 0 < before → l .listed ≡ last

@@ -3,7 +3,7 @@
 use mathlib.Core.Path.{_≡_, refl}
 use mathlib.Core.Bool.{Bool, cond, _&&_}
 use mathlib.Core.List.{List, [], _∷_}
-use Prim.Native.Nat.{ℕ, zero, suc, _-_, _^_, min}
+use Prim.Native.Nat.{ℕ, zero, suc, _^_, min}
 use lib.Dec.{eqb, leb, ltb}
 use lib.ListN.{length, drop}
 use Rattle.refusal.specs.Refusal.{outOfRange, unknownKind, codeNotAllowed, bytesLeft}
@@ -17,11 +17,11 @@ use Rattle.dial_code.specs.Code.{isCode}
 use Rattle.rate.specs.Time.{lastDay, lastReceivedDay}
 use Rattle.rate.specs.Price.{rate, priceOf}
 use Rattle.rate.specs.declared.Offer.the-variants.{Open}
-use Rattle.notice.specs.Field.{andThen, readRanged}
-use Rattle.notice.specs.LineRule.{lineOf, codeField, readCode, readIncrements, readRate, readTerms, listedField, readListed, readLine}
-use Rattle.notice.specs.declared.Line.{Line}
-use Rattle.notice.specs.declared.LineRead.{LineRead}
-use Rattle.notice.specs.declared.LineRead.the-variants as line
+use Rattle.varint.specs.Ranged.{andThen, readRanged}
+use Rattle.notice_line.specs.LineRule.{lineOf, codeField, readCode, readIncrements, readRate, readTerms, listedField, listedDay, readListed, readLine}
+use Rattle.notice_line.specs.declared.Line.{Line}
+use Rattle.notice_line.specs.declared.LineRead.{LineRead}
+use Rattle.notice_line.specs.declared.LineRead.the-variants as line
 use Rattle.notice.specs.declared.Header.{Header}
 use Rattle.notice.specs.declared.HeaderRead.{HeaderRead}
 use Rattle.notice.specs.declared.HeaderRead.the-variants as header
@@ -134,7 +134,7 @@ readNotice s = withHeader (readHeader s) (λ h. withLines h (readLines (h .lines
 -- The earliest listed day of some lines, where a line that lists none counts as listing day 0.
 unfoldable pub earliest : List Line → ℕ
 earliest [] = lastDay
-earliest (l ∷ ls) = min (l .listed - 1) (earliest ls)
+earliest (l ∷ ls) = min (listedDay (l .listed)) (earliest ls)
 
 -- What a pass over the lines keeps of them.
 abbrev pub scanned : Lines → Scan

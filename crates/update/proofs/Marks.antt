@@ -19,7 +19,7 @@ use Rattle.dial_code.proofs.Tests.{both, and-left-true}
 use Rattle.dial_code.proofs.DigitLaws.{value-below}
 use Rattle.book.proofs.Matching.{word-digits}
 use Rattle.notice.specs.NoticeRule.{Notice, partial}
-use Rattle.notice.specs.declared.Line.{Line}
+use Rattle.notice_line.specs.declared.Line.{Line}
 use Rattle.notice.specs.declared.Summary.{Summary}
 use Rattle.history.specs.Effect.{sameCountry, namedBy, inCountry, closes}
 use Rattle.update.specs.Plans.{planOf, marked, marksOf, noMarks, marksFor, isMarked, closesIn, closesBy}

@@ -7,11 +7,11 @@ use Prim.Native.Nat.{ℕ, _+_, _-_, _*_, _≤_, _<_, max}
 use native.Mathlib.Omega.{arith}
 use lib.ListN.{length, drop}
 use Rattle.dial_code.specs.Key.{key, digitsOfKey, keysEnd}
-use Rattle.notice.specs.LineRule.{lineAt}
+use Rattle.notice_line.specs.LineRule.{lineAt}
 use Rattle.notice.specs.NoticeRule.{lines, readLines}
-use Rattle.notice.specs.declared.Line.{Line}
-use Rattle.notice.specs.declared.LineRead.{LineRead}
-use Rattle.notice.specs.declared.LineRead.the-variants.{Read, Refused}
+use Rattle.notice_line.specs.declared.Line.{Line}
+use Rattle.notice_line.specs.declared.LineRead.{LineRead}
+use Rattle.notice_line.specs.declared.LineRead.the-variants.{Read, Refused}
 use Rattle.book.specs.Layout.{latestOf, countOf, entriesFrom, entriesOf, wordsOf}
 use Rattle.book.specs.declared.Entry.{Entry}
 use Rattle.book.proofs.Rows.{length-rows}

@@ -10,11 +10,11 @@ use Rattle.dial_code.specs.Key.{key, digitsOfKey}
 use Rattle.dial_code.specs.CountryCode.{countryOfKey}
 use Rattle.dial_code.specs.Code.{isCodeKey}
 use Rattle.dial_code.proofs.CodeLaws.{keyed-code, code-back}
-use Rattle.notice.specs.LineRule.{lineAt}
+use Rattle.notice_line.specs.LineRule.{lineAt}
 use Rattle.notice.specs.NoticeRule.{lines, readLines}
-use Rattle.notice.specs.declared.Line.{Line}
-use Rattle.notice.specs.declared.LineRead.{LineRead}
-use Rattle.notice.specs.declared.LineRead.the-variants.{Read, Refused}
+use Rattle.notice_line.specs.declared.Line.{Line}
+use Rattle.notice_line.specs.declared.LineRead.{LineRead}
+use Rattle.notice_line.specs.declared.LineRead.the-variants.{Read, Refused}
 use Rattle.notice.proofs.LinesLaws.{ValidFrom, line-next, lines-none, lines-valid}
 use Rattle.update.specs.Plans.{marked, marksOf}
 use Rattle.update.proofs.Planning.{marks-turn, marks-end}

@@ -17,7 +17,7 @@ use Rattle.rate.specs.OfferWord.{wordOf}
 use Rattle.rate.specs.declared.Rate.{Rate}
 use Rattle.rate.specs.declared.Offer.{Offer}
 use Rattle.rate.specs.declared.Offer.the-variants.{Open}
-use Rattle.notice.specs.declared.Line.{Line}
+use Rattle.notice_line.specs.declared.Line.{Line}
 use Rattle.notice.specs.declared.Summary.{Summary}
 use Rattle.book.specs.Layout.{entry, entriesOf}
 use Rattle.book.specs.Status.{offerIn, matched}

@@ -13,7 +13,7 @@ use Rattle.dial_code.specs.declared.Country.the-variants.{Code, None}
 use Rattle.rate.specs.OfferWord.{wordOf}
 use Rattle.rate.specs.declared.Offer.{Offer}
 use Rattle.notice.specs.NoticeRule.{Lines, lines, refused, readLines, full, partial, replacement}
-use Rattle.notice.specs.declared.Line.{Line}
+use Rattle.notice_line.specs.declared.Line.{Line}
 use Rattle.notice.specs.declared.Summary.{Summary}
 use Rattle.book.specs.Layout.{entry, entriesOf}
 use Rattle.book.specs.declared.Entry.{Entry}

@@ -16,8 +16,8 @@ use crate::Plan;
 use dial_code::Country;
 use history::Applied;
 use notice::Checked;
-use notice::LineRead;
 use notice::Summary;
+use notice_line::LineRead;
 
 // What a merge comes to: how many entries, and the latest effective day.
 pub struct Merged {
@@ -53,7 +53,7 @@ fn merge(
     let mut at = m.start;
     let mut left = m.lines;
     while 0 < left {
-        match notice::line_at(notice, at) {
+        match notice_line::line_at(notice, at) {
             LineRead::Refused(_) => {
                 return Merged {
                     count: place.count,
@@ -158,7 +158,7 @@ fn mark_lines(notice: &[u8], m: Summary, marks: &mut [u8; 1000])
     let mut at = m.start;
     let mut left = m.lines;
     while 0 < left {
-        match notice::line_at(notice, at) {
+        match notice_line::line_at(notice, at) {
             LineRead::Refused(_) => {
                 return;
             }

@@ -19,8 +19,8 @@ mod countries;
 
 pub use applying::apply;
 use book::Entry;
-use notice::Line;
 use notice::Summary;
+use notice_line::Line;
 use rate::Offer;
 
 // What a notice asks of every line and of the codes that it does not list: `noticed` where every line waits for the floor, and

@@ -6,30 +6,21 @@ use mathlib.Core.List.{List, [], _++_, append-assoc}
 use Prim.Native.Nat.{ℕ, zero, suc, _+_, _^_, _≤_, _<_}
 use native.Mathlib.Omega.{arith}
 use lib.ListN.{length, getD, take, drop, length-drop, take-append-drop}
-use lib.Seq.{drop-append-seam, drop-drop, getD-drop, length-take-le}
+use lib.Seq.{drop-append-seam, drop-drop, getD-drop}
 use Rattle.refusal.specs.Refusal.{bytesEnd, notShortest}
 use Rattle.varint.specs.declared.Number.{Number}
 use Rattle.varint.specs.declared.Number.the-variants.{Value, Refused}
 use Rattle.varint.specs.Reading.{groups, from, readNumber}
-use Rattle.varint.specs.Writing.{encode, answer, left}
+use Rattle.varint.specs.Writing.{encode}
 use Rattle.varint.proofs.Groups.{nine, some-byte, few-bytes, bytes-below, a-byte, back}
 use Rattle.varint.proofs.Values.{front, within, stands}
 use Rattle.varint.proofs.Refusals.{front-refused, refused, ended, ended-refused, longer, longer-refused}
-use Rattle.varint.proofs.Outcome.{written}
 
 -- A number's bytes read as the number, wherever they stand.
 pub reads-back : (pre post : List ℕ) (n : ℕ) → n < 2 ^ 63
     → readNumber (pre ++ encode n ++ post) (length pre) ≡ Value n (length pre + length (encode n))
 unfolding readNumber encode
 reads-back pre post n h = rw (append-assoc, drop-append-seam) (ap (from (length pre)) (back 8 n post h))
-
--- What write_number leaves where there is room reads as the number.
-pub written-reads-back : (s : List ℕ) (at n : ℕ) → n < 2 ^ 63 → at + length (encode n) ≤ length s
-    → readNumber (left (answer (length s) at n) s at n) at ≡ Value n (at + length (encode n))
-unfolding left
-written-reads-back s at n h l =
-    rw (← written s at n h l refl refl .0)
-    (rw (length-take-le at s (omega arith)) at (reads-back (take at s) (drop (at + length (encode n)) s) n h))
 
 -- A number that is read stands there in its one encoding.
 pub only-encoding : (s : List ℕ) (at n end : ℕ) → ((i : ℕ) → getD s i 0 < 256) → readNumber s at ≡ Value n end

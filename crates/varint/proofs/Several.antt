@@ -1,23 +1,41 @@
 -- Several numbers one after the other: what numbers_size and write_numbers come to, and that they read back.
 -- Assumes nothing.
 use mathlib.Core.Path.{_≡_, refl, ap, sym, _∙_}
+use mathlib.Core.Logic.{_≢_}
 use mathlib.Core.Bool.{Bool, true, false, cond, _&&_, and-eq-true-iff}
 use mathlib.Core.List.{List, [], _∷_, _++_, append-assoc}
 use Prim.Native.Nat.{ℕ, suc, _+_, _*_, _^_, _≤_, _<_}
 use native.Mathlib.Omega.{arith}
 use native.Mathlib.Numerals.{add-one}
-use borrow.Author.Tests.{ltb-true, lt-ltb, le-ltb, le-leb, lt-leb}
+use borrow.Author.Tests.{ltb-true, ltb-false, lt-ltb, le-ltb, le-leb, lt-leb}
+use lib.Dec.{ltb}
 use lib.ListN.{length, getD, set, take, drop, length-append, drop-of-length-le}
-use lib.Seq.{sets, sets-eq, length-sets, drop-cons, drop-drop, drop-append-seam}
+use lib.Seq.{sets, sets-eq, length-sets, length-take-le, drop-cons, drop-drop, drop-append-seam}
 use Rattle.varint.specs.declared.Number.the-variants.{Value}
 use Rattle.varint.specs.declared.Written.{Written}
 use Rattle.varint.specs.declared.Written.the-variants.{UpTo, NoRoom, TooLarge}
 use Rattle.varint.specs.Reading.{from, readNumber}
 use Rattle.varint.specs.Writing.{encode, encodable, sizeOf}
 use Rattle.varint.specs.Several.{encodeAll, encodableAll, sizeOfAll, answerAll, leftAll, leavesAll}
-use Rattle.varint.proofs.Groups.{back}
-use Rattle.varint.proofs.Outcome.{no-size}
-use Rattle.varint.proofs.Laws.{size}
+use Rattle.varint.proofs.Groups.{some-byte, back}
+use Rattle.varint.proofs.Laws.{size, reads-back}
+
+-- A size of 0 tells that the number is too large, and any other that it is not.
+pub no-size : (n r : ℕ) → r ≡ sizeOf n → r ≡ 0 → 2 ^ 63 ≤ n
+unfolding sizeOf encode
+no-size n r e z = go (ltb n (2 ^ 63)) refl (sym e ∙ z)
+  where
+    go : (t : Bool) → ltb n (2 ^ 63) ≡ t → cond t (length (encode n)) 0 ≡ 0 → 2 ^ 63 ≤ n
+    go true q z = absurd (omega (arith, some-byte 8 n))
+    go false q z = ltb-false _ _ q
+
+pub some-size : (n r : ℕ) → r ≡ sizeOf n → r ≢ 0 → (n < 2 ^ 63) × (r ≡ length (encode n))
+unfolding sizeOf
+some-size n r e h = go (ltb n (2 ^ 63)) refl e
+  where
+    go : (t : Bool) → ltb n (2 ^ 63) ≡ t → r ≡ cond t (length (encode n)) 0 → (n < 2 ^ 63) × (r ≡ length (encode n))
+    go true q z = (ltb-true _ _ q, z)
+    go false q z = absurd (h z)
 
 -- No numbers have an encoding, and several have one where the first has one and the others have.
 pub all-nil : encodableAll [] ≡ true
@@ -184,3 +202,36 @@ pub reads-first : (s : List ℕ) (at n : ℕ) (ns post : List ℕ) → n < 2 ^ 6
 reads-first s at n ns post h e =
     reads-on s at n (encodeAll ns ++ post) h
     (e ∙ ap (λ (t : List ℕ). t ++ post) (bytes-cons n ns) ∙ append-assoc (encode n) (encodeAll ns) post)
+
+-- The bytes of some numbers and others are those of the first and then those of the second.
+pub bytes-append : (ms ns : List ℕ) → encodeAll (ms ++ ns) ≡ encodeAll ms ++ encodeAll ns
+bytes-append [] ns = sym (ap (λ (t : List ℕ). t ++ encodeAll ns) bytes-nil)
+bytes-append (m ∷ ms) ns =
+    bytes-cons m (ms ++ ns)
+    ∙ ap (λ (t : List ℕ). encode m ++ t) (bytes-append ms ns)
+    ∙ sym (append-assoc (encode m) (encodeAll ms) (encodeAll ns))
+    ∙ ap (λ (t : List ℕ). t ++ encodeAll ns) (sym (bytes-cons m ms))
+
+-- each of some numbers that have an encoding has one
+all-mid : (ms : List ℕ) (n : ℕ) (ns : List ℕ) → encodableAll (ms ++ (n ∷ ns)) ≡ true → n < 2 ^ 63
+all-mid [] n ns e = all-first n ns e .0
+all-mid (m ∷ ms) n ns e = all-mid ms n ns (all-first m (ms ++ (n ∷ ns)) e .1)
+
+-- Each number that write_numbers writes reads as itself, at the place after those before it.
+pub written-reads-back : (s : List ℕ) (at : ℕ) (ms : List ℕ) (n : ℕ) (ns : List ℕ)
+    → encodableAll (ms ++ (n ∷ ns)) ≡ true
+    → at + length (encodeAll (ms ++ (n ∷ ns))) ≤ length s
+    → readNumber (leavesAll s at (ms ++ (n ∷ ns))) (at + length (encodeAll ms))
+    ≡ Value n (at + length (encodeAll ms) + length (encode n))
+written-reads-back s at ms n ns e h =
+    let h₁ : at ≤ length s = omega arith in
+    let front : List ℕ = take at s ++ encodeAll ms in
+    let tail : List ℕ = encodeAll ns ++ drop (at + length (encodeAll (ms ++ (n ∷ ns)))) s in
+    let l : length front ≡ at + length (encodeAll ms) =
+    length-append (take at s) (encodeAll ms) ∙ ap (λ (k : ℕ). k + length (encodeAll ms)) (length-take-le at s h₁) in
+    let b : leavesAll s at (ms ++ (n ∷ ns)) ≡ front ++ encode n ++ tail =
+    writes s at (ms ++ (n ∷ ns)) e h .1
+    ∙ ap (λ (t : List ℕ). take at s ++ t ++ drop (at + length (encodeAll (ms ++ (n ∷ ns)))) s)
+    (bytes-append ms (n ∷ ns) ∙ ap (λ (t : List ℕ). encodeAll ms ++ t) (bytes-cons n ns))
+    ∙ simp append-assoc in
+    rw (b, ← l) (reads-back front tail n (all-mid ms n ns e))

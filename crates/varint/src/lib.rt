@@ -7,7 +7,8 @@ ghost use lib.Dec.{leb};
 ghost use lib.ListN.{length};
 ghost use lib.Seq.{sets};
 ghost use Rattle.varint.specs.Reading.{mostGroups, readNumber};
-ghost use Rattle.varint.specs.Writing.{encode, sizeOf, answer, left};
+ghost use Rattle.varint.specs.Ranged.{inRange, readRanged};
+ghost use Rattle.varint.specs.Writing.{encode, sizeOf};
 ghost use Rattle.varint.specs.Several.{encodeAll, encodableAll, sizeOfAll, answerAll, leavesAll};
 
 mod reader;
@@ -80,6 +81,31 @@ pub fn read_field(s: &[u8], at: usize) -> Number
     read_number(s, at)
 }
 
+// A number from least to most, else 4.
+pub fn in_range(read: Number, least: u64, most: u64) -> Number
+    ensures { λ r. ⌜ r ≡ inRange read least most ⌝ }
+{
+    match read {
+        Number::Refused(e) => Number::Refused(e),
+        Number::Value(n, next) => {
+            if n < least {
+                return Number::Refused(refusal::OUT_OF_RANGE);
+            }
+            if most < n {
+                return Number::Refused(refusal::OUT_OF_RANGE);
+            }
+            Number::Value(n, next)
+        }
+    }
+}
+
+// The number at a position, from least to most: 1, 2, then 4.
+pub fn read_ranged(s: &[u8], at: usize, least: u64, most: u64) -> Number
+    ensures { λ r. ⌜ r ≡ readRanged (now (s .entry)) at least most ⌝ }
+{
+    in_range(read_field(s, at), least, most)
+}
+
 // How many bytes a number takes; 0 where it is too large to have an encoding.
 pub fn number_size(n: u64) -> usize
     ensures { λ r. ⌜ r ≡ sizeOf n ⌝ }
@@ -121,21 +147,6 @@ fn put_number(out: &mut [u8], at: usize, n: u64) -> usize
     }
     out[i] = m as u8;
     i + 1
-}
-
-// Writes a number at a position of a lent slice. Where there is no room, or the number is too large, no byte changes.
-pub fn write_number(out: &mut [u8], at: usize, n: u64) -> Written
-    ensures { λ r. ⌜ r ≡ answer (length (now (out .entry))) at n ⌝ }
-    ensures { λ r. ⌜ now (out .exit) ≡ left (answer (length (now (out .entry))) at n) (now (out .entry)) at n ⌝ }
-{
-    let size = number_size(n);
-    if size == 0 {
-        return Written::TooLarge;
-    }
-    if !fits(out.len(), at, size) {
-        return Written::NoRoom;
-    }
-    Written::UpTo(put_number(out, at, n))
 }
 
 // How many bytes several numbers take, one after the other; 0 where one is too large to have an encoding.

@@ -9,7 +9,7 @@ use lib.Seq.{sets}
 use Prim.Native.Nat.{_+_}
 use lib.ListN.{length}
 use Rattle.varint.specs.declared.Written.the-variants.{UpTo}
-use Rattle.notice.specs.Layout.{encodeLines}
+use Rattle.notice_writing.specs.Layout.{encodeLines}
 use Rattle.book.specs.Layout.{entriesFrom}
 use Rattle.listing.specs.Pass.{addedBy}
 use mathlib.Core.Path.{_≡_}

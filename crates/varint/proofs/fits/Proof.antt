@@ -3,7 +3,7 @@ use mathlib.Core.Path.{sym}
 use Prim.Native.Nat.{_+_}
 use native.Mathlib.Omega.{arith}
 use borrow.Author.Tests.{lt-leb}
-use Rattle.varint.proofs.Outcome.{room-left}
+use Rattle.varint.proofs.Room.{room-left}
 use Rattle.varint.proofs.fits.Statement.{statement}
 use Rattle.varint.proofs.fits.Tie as tie
 

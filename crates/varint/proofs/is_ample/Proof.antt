@@ -4,7 +4,7 @@ use Prim.Native.Nat.{_+_, _*_}
 use native.Mathlib.Omega.{arith}
 use borrow.Author.Needs.{needs}
 use borrow.Author.Tests.{lt-leb}
-use Rattle.varint.proofs.Outcome.{room-for-all}
+use Rattle.varint.proofs.Room.{room-for-all}
 use Rattle.varint.proofs.is_ample.Statement.{statement}
 use Rattle.varint.proofs.is_ample.Tie as tie
 

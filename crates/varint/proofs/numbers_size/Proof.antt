@@ -7,8 +7,7 @@ use borrow.Author.Needs.{needs}
 use lib.ListN.{length, getD, drop}
 use Rattle.varint.specs.Several.{encodeAll, encodableAll}
 use Rattle.varint.proofs.Laws.{size}
-use Rattle.varint.proofs.Outcome.{some-size}
-use Rattle.varint.proofs.Several.{turn-all, turn-length, stops, rests, all-sized}
+use Rattle.varint.proofs.Several.{some-size, turn-all, turn-length, stops, rests, all-sized}
 use Rattle.varint.proofs.numbers_size.Statement.{statement}
 use Rattle.varint.proofs.numbers_size.Tie as tie
 

@@ -8,7 +8,7 @@ use borrow.Author.Needs.{needs}
 use lib.ListN.{length, drop}
 use Rattle.dial_code.specs.CountryCode.{countryOfKey}
 use Rattle.notice.specs.NoticeRule.{lines, readLines}
-use Rattle.notice.specs.declared.Line.{Line}
+use Rattle.notice_line.specs.declared.Line.{Line}
 use Rattle.update.specs.Plans.{marksOf}
 use Rattle.update.proofs.Planning.{marks-kept}
 use Rattle.update.proofs.Passing.{Marking, marks-next, marks-refused, marks-over}

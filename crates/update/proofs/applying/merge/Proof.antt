@@ -8,7 +8,7 @@ use native.Mathlib.Omega.{arith}
 use borrow.Author.Needs.{needs}
 use lib.ListN.{length, drop}
 use Rattle.notice.specs.NoticeRule.{lines, readLines}
-use Rattle.notice.specs.declared.Line.{Line}
+use Rattle.notice_line.specs.declared.Line.{Line}
 use Rattle.book.proofs.Headers.{sound-book}
 use Rattle.update.proofs.Merging.{Merging, merge-starts, pass-most, merge-refused, merge-keyed, merge-room, merge-next}
 use Rattle.update.proofs.Merging.{merge-last-room, merge-dated, merge-counted, merge-written, merge-same}
