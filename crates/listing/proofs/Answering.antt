@@ -9,10 +9,10 @@ use lib.Dec.{eqb, leb}
 use lib.ListN.{length, length-append}
 use lib.Seq.{sets, sets-eq, length-sets}
 use Rattle.refusal.specs.Refusal.{bufferTooShort, timeOutOfRange, noOffer}
-use Rattle.varint.specs.Several.{sizeOfAll, answerAll, leavesAll}
-use Rattle.varint.specs.declared.Written.{Written}
-use Rattle.varint.specs.declared.Written.the-variants.{UpTo}
-use Rattle.varint.proofs.Several.{sets-append}
+use Rattle.varint_writing.specs.Several.{sizeOfAll, answerAll, leavesAll}
+use Rattle.varint_writing.specs.declared.Written.{Written}
+use Rattle.varint_writing.specs.declared.Written.the-variants.{UpTo}
+use Rattle.varint.proofs.Slices.{sets-append}
 use Rattle.dial_code.proofs.Tests.{positive}
 use Rattle.rate.specs.Time.{isReceivedDay, lastReceivedDay}
 use Rattle.rate.specs.declared.Day.{Day}

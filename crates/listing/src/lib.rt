@@ -16,7 +16,7 @@ use notice_line::Line;
 use rate::Day;
 use rate::Offer;
 use rate::Stored;
-use varint::Written;
+use varint_writing::Written;
 
 // What writing a list answers: a refusal number or 0, and the list's length, 0 with a refusal.
 pub struct Listed {

@@ -2,11 +2,11 @@
 ghost use mathlib.Core.Path.{_≡_};
 ghost use Prim.Native.Nat.{_≤_};
 ghost use lib.ListN.{length, take};
-ghost use Rattle.varint.specs.Several.{sizeOfAll, answerAll, leavesAll};
+ghost use Rattle.varint_writing.specs.Several.{sizeOfAll, answerAll, leavesAll};
 ghost use Rattle.notice_writing.specs.Layout.{lineFields, headerFields, countryCount};
 use notice_line::Line;
 use rate::Offer;
-use varint::Written;
+use varint_writing::Written;
 
 const SENT_DECIMALS: u64 = 8;
 
@@ -54,7 +54,7 @@ fn fields_size(fields: Fields) -> usize
 {
     let numbers = fields.numbers;
     let count = fields.count;
-    varint::numbers_size(&numbers[0..count])
+    varint_writing::numbers_size(&numbers[0..count])
 }
 
 // Writes some fields at a position of a lent slice. Where there is no room, or one is too large, no byte changes.
@@ -65,28 +65,28 @@ fn write_fields(out: &mut [u8], at: usize, fields: Fields) -> Written
 {
     let numbers = fields.numbers;
     let count = fields.count;
-    varint::write_numbers(out, at, &numbers[0..count])
+    varint_writing::write_numbers(out, at, &numbers[0..count])
 }
 
 // How many bytes a line takes; 0 where its last field is too large to have an encoding.
 pub fn line_size(line: Line) -> usize
     ensures { λ r. ⌜ r ≡ sizeOfAll (lineFields line) ⌝ }
 {
-    let last = varint::number_size(line.listed);
+    let last = varint_writing::number_size(line.listed);
     if last == 0 {
         return 0;
     }
     // The digit count, the status and the decimals take a byte each.
     let code = dial_code::key_code(line.key);
-    let most = varint::number_size(code.value) + last + 2;
+    let most = varint_writing::number_size(code.value) + last + 2;
     let offer = line.offer;
     match offer {
         Offer::Closed => most,
         Offer::Blocked => most,
         Offer::Open { rate, first, next } => {
-            let price = varint::number_size(rate.0 as u64);
-            let start = varint::number_size(first as u64);
-            most + 1 + price + start + varint::number_size(next as u64)
+            let price = varint_writing::number_size(rate.0 as u64);
+            let start = varint_writing::number_size(first as u64);
+            most + 1 + price + start + varint_writing::number_size(next as u64)
         }
     }
 }
@@ -102,11 +102,11 @@ pub fn write_line(out: &mut [u8], at: usize, line: Line) -> Written
     match offer {
         Offer::Closed => {
             let fields = [code.count, code.value, 0, listed];
-            varint::write_numbers(out, at, &fields)
+            varint_writing::write_numbers(out, at, &fields)
         }
         Offer::Blocked => {
             let fields = [code.count, code.value, 1, listed];
-            varint::write_numbers(out, at, &fields)
+            varint_writing::write_numbers(out, at, &fields)
         }
         Offer::Open { rate, first, next } => {
             let price = rate.0 as u64;
@@ -120,7 +120,7 @@ pub fn write_line(out: &mut [u8], at: usize, line: Line) -> Written
                 next as u64,
                 listed,
             ];
-            varint::write_numbers(out, at, &fields)
+            varint_writing::write_numbers(out, at, &fields)
         }
     }
 }

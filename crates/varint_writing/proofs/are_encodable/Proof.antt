@@ -5,10 +5,10 @@ use Prim.Native.Nat.{_-_}
 use native.Mathlib.Omega.{arith}
 use borrow.Author.Needs.{needs}
 use lib.ListN.{length, drop}
-use Rattle.varint.specs.Several.{encodableAll}
-use Rattle.varint.proofs.Several.{turn-all, turn-none, rests}
-use Rattle.varint.proofs.are_encodable.Statement.{statement}
-use Rattle.varint.proofs.are_encodable.Tie as tie
+use Rattle.varint_writing.specs.Several.{encodableAll}
+use Rattle.varint_writing.proofs.Several.{turn-all, turn-none, rests}
+use Rattle.varint_writing.proofs.are_encodable.Statement.{statement}
+use Rattle.varint_writing.proofs.are_encodable.Tie as tie
 
 abbrev Inv-loop : tie.InvT-loop
 Inv-loop numbers i₀ i = encodableAll numbers ≡ encodableAll (drop i numbers)

@@ -7,10 +7,10 @@ use native.Mathlib.Omega.{arith}
 use borrow.Author.Needs.{needs}
 use borrow.Author.Tests.{leb-true, leb-false, not-true, not-false}
 use lib.ListN.{length}
-use Rattle.varint.specs.Several.{encodeAll, encodableAll}
-use Rattle.varint.proofs.Several.{all-sized, nine-each, all-too-large, all-no-room, all-written}
-use Rattle.varint.proofs.write_numbers.Statement.{statement}
-use Rattle.varint.proofs.write_numbers.Tie as tie
+use Rattle.varint_writing.specs.Several.{encodeAll, encodableAll}
+use Rattle.varint_writing.proofs.Several.{all-sized, nine-each, all-too-large, all-no-room, all-written}
+use Rattle.varint_writing.proofs.write_numbers.Statement.{statement}
+use Rattle.varint_writing.proofs.write_numbers.Tie as tie
 
 -- past the first test the numbers have an encoding
 encodes : (c : tie.Else1) → encodableAll (c .before .before .before .before .args .numbers .now) ≡ true

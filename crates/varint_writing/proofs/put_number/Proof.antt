@@ -7,10 +7,10 @@ use native.Mathlib.Numerals.{add-one}
 use borrow.Author.Needs.{needs}
 use lib.ListN.{length, length-set}
 use lib.Seq.{sets}
-use Rattle.varint.specs.Writing.{groupsOf, encode}
-use Rattle.varint.proofs.Groups.{single, more, some-byte}
-use Rattle.varint.proofs.put_number.Statement.{statement}
-use Rattle.varint.proofs.put_number.Tie as tie
+use Rattle.varint_writing.specs.Writing.{groupsOf, encode}
+use Rattle.varint_writing.proofs.Groups.{single, more, some-byte}
+use Rattle.varint_writing.proofs.put_number.Statement.{statement}
+use Rattle.varint_writing.proofs.put_number.Tie as tie
 
 abbrev Inv-loop : tie.InvT-loop
 Inv-loop out₀ at n m₀ i₀ out m i =

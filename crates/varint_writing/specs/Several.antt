@@ -5,9 +5,9 @@ use mathlib.Core.List.{List, [], _∷_, _++_}
 use Prim.Native.Nat.{ℕ, _+_, _^_}
 use lib.ListN.{length, take, drop}
 use lib.Dec.{leb}
-use Rattle.varint.specs.Writing.{encode, encodable}
-use Rattle.varint.specs.declared.Written.{Written}
-use Rattle.varint.specs.declared.Written.the-variants.{UpTo, NoRoom, TooLarge}
+use Rattle.varint_writing.specs.Writing.{encode, encodable}
+use Rattle.varint_writing.specs.declared.Written.{Written}
+use Rattle.varint_writing.specs.declared.Written.the-variants.{UpTo, NoRoom, TooLarge}
 
 -- The bytes of several numbers below 2 ^ 63.
 unfoldable pub encodeAll : List ℕ → List ℕ

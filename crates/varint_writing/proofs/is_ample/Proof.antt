@@ -4,9 +4,9 @@ use Prim.Native.Nat.{_+_, _*_}
 use native.Mathlib.Omega.{arith}
 use borrow.Author.Needs.{needs}
 use borrow.Author.Tests.{lt-leb}
-use Rattle.varint.proofs.Room.{room-for-all}
-use Rattle.varint.proofs.is_ample.Statement.{statement}
-use Rattle.varint.proofs.is_ample.Tie as tie
+use Rattle.varint_writing.proofs.Room.{room-for-all}
+use Rattle.varint_writing.proofs.is_ample.Statement.{statement}
+use Rattle.varint_writing.proofs.is_ample.Tie as tie
 
 returns : tie.Need-returns
 returns c = let a = c .before .args in sym (lt-leb (a .at + 9 * a .count) (a .room) (omega arith))

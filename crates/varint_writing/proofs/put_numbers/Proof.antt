@@ -7,10 +7,10 @@ use native.Mathlib.Omega.{arith}
 use borrow.Author.Needs.{needs}
 use lib.ListN.{length, drop}
 use lib.Seq.{sets}
-use Rattle.varint.specs.Several.{encodeAll, encodableAll}
-use Rattle.varint.proofs.Several.{turn-first, turn-length, rests, stores}
-use Rattle.varint.proofs.put_numbers.Statement.{statement}
-use Rattle.varint.proofs.put_numbers.Tie as tie
+use Rattle.varint_writing.specs.Several.{encodeAll, encodableAll}
+use Rattle.varint_writing.proofs.Several.{turn-first, turn-length, rests, stores}
+use Rattle.varint_writing.proofs.put_numbers.Statement.{statement}
+use Rattle.varint_writing.proofs.put_numbers.Tie as tie
 
 abbrev Inv-loop : tie.InvT-loop
 Inv-loop out₀ at numbers end₀ done₀ out end done =

@@ -3,9 +3,9 @@ use mathlib.Core.Path.{sym}
 use Prim.Native.Nat.{_+_}
 use native.Mathlib.Omega.{arith}
 use borrow.Author.Tests.{lt-leb}
-use Rattle.varint.proofs.Room.{room-left}
-use Rattle.varint.proofs.fits.Statement.{statement}
-use Rattle.varint.proofs.fits.Tie as tie
+use Rattle.varint_writing.proofs.Room.{room-left}
+use Rattle.varint_writing.proofs.fits.Statement.{statement}
+use Rattle.varint_writing.proofs.fits.Tie as tie
 
 returns : tie.Need-returns
 returns c = let a = c .before .args in sym (lt-leb (a .at + a .size) (a .room) (omega arith))

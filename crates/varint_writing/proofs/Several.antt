@@ -4,21 +4,22 @@ use mathlib.Core.Path.{_≡_, refl, ap, sym, _∙_}
 use mathlib.Core.Logic.{_≢_}
 use mathlib.Core.Bool.{Bool, true, false, cond, _&&_, and-eq-true-iff}
 use mathlib.Core.List.{List, [], _∷_, _++_, append-assoc}
-use Prim.Native.Nat.{ℕ, suc, _+_, _*_, _^_, _≤_, _<_}
+use Prim.Native.Nat.{ℕ, _+_, _*_, _^_, _≤_, _<_}
 use native.Mathlib.Omega.{arith}
 use native.Mathlib.Numerals.{add-one}
 use borrow.Author.Tests.{ltb-true, ltb-false, lt-ltb, le-ltb, le-leb, lt-leb}
 use lib.Dec.{ltb}
-use lib.ListN.{length, getD, set, take, drop, length-append, drop-of-length-le}
+use lib.ListN.{length, getD, take, drop, length-append, drop-of-length-le}
 use lib.Seq.{sets, sets-eq, length-sets, length-take-le, drop-cons, drop-drop, drop-append-seam}
 use Rattle.varint.specs.declared.Number.the-variants.{Value}
-use Rattle.varint.specs.declared.Written.{Written}
-use Rattle.varint.specs.declared.Written.the-variants.{UpTo, NoRoom, TooLarge}
+use Rattle.varint_writing.specs.declared.Written.{Written}
+use Rattle.varint_writing.specs.declared.Written.the-variants.{UpTo, NoRoom, TooLarge}
 use Rattle.varint.specs.Reading.{from, readNumber}
-use Rattle.varint.specs.Writing.{encode, encodable, sizeOf}
-use Rattle.varint.specs.Several.{encodeAll, encodableAll, sizeOfAll, answerAll, leftAll, leavesAll}
-use Rattle.varint.proofs.Groups.{some-byte, back}
-use Rattle.varint.proofs.Laws.{size, reads-back}
+use Rattle.varint_writing.specs.Writing.{encode, encodable, sizeOf}
+use Rattle.varint_writing.specs.Several.{encodeAll, encodableAll, sizeOfAll, answerAll, leftAll, leavesAll}
+use Rattle.varint_writing.proofs.Groups.{some-byte, back}
+use Rattle.varint.proofs.Slices.{sets-append}
+use Rattle.varint_writing.proofs.Laws.{size, reads-back}
 
 -- A size of 0 tells that the number is too large, and any other that it is not.
 pub no-size : (n r : ℕ) → r ≡ sizeOf n → r ≡ 0 → 2 ^ 63 ≤ n
@@ -137,12 +138,6 @@ none-all ns e = rw e
 pub all-sized : (ns : List ℕ) → encodableAll ns ≡ true → sizeOfAll ns ≡ length (encodeAll ns)
 unfolding sizeOfAll
 all-sized ns e = rw e
-
--- Stores one after the other.
-pub sets-append : (l : List ℕ) (i : ℕ) (xs ys : List ℕ) → sets (sets l i xs) (i + length xs) ys ≡ sets l i (xs ++ ys)
-sets-append l i [] ys = ap (λ (j : ℕ). sets l j ys) (omega arith)
-sets-append l i (x ∷ xs) ys =
-    ap (λ (j : ℕ). sets (sets (set l i x) (suc i) xs) j ys) (omega arith) ∙ sets-append (set l i x) (suc i) xs ys
 
 -- One number stored: the length stays, and what is left to store gives what it gave before.
 pub stores : (ns : List ℕ) (i : ℕ) → i < length ns → (l : List ℕ) (end : ℕ) {m r : List ℕ} {next : ℕ}
