@@ -3,7 +3,6 @@ pub mod Countries
 pub mod HeaderLaws
 pub mod LeadingLaws
 pub mod LinesLaws
-pub mod ValidLines
 pub mod NoticeLaws
 pub mod Scanning
 pub mod Checking

@@ -89,7 +89,7 @@ fn header_by(
     match kind {
         Number::Refused(e) => HeaderRead::Refused(e),
         Number::Value(known, _) => {
-            if known < 1 {
+            if known < crate::FULL {
                 return HeaderRead::Refused(refusal::UNKNOWN_KIND);
             }
             if crate::REPLACEMENT < known {

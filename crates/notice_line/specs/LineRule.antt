@@ -29,6 +29,20 @@ use Rattle.notice_line.specs.declared.LineRead.the-variants as line
 use Rattle.notice_line.specs.declared.Terms.{Terms}
 use Rattle.notice_line.specs.declared.Terms.the-variants as terms
 
+-- a line's status
+abbrev pub deletes : ℕ
+deletes = 0
+
+abbrev pub blocks : ℕ
+blocks = 1
+
+abbrev pub hasRate : ℕ
+hasRate = 2
+
+-- increments are at most so many seconds
+abbrev pub mostSeconds : ℕ
+mostSeconds = 255
+
 -- The country of a digit string is this one.
 abbrev pub isCountry : Country → ℕ → Bool
 isCountry (Code c) n = eqb c n
@@ -88,8 +102,8 @@ offered priced.OutOfRange first next = Blocked
 -- The increments after a rate: first and next, 1 to 255 seconds each.
 unfoldable pub readIncrements : ℕ → ℕ → List ℕ → ℕ → Terms
 readIncrements mantissa decimals s at =
-    andThen (readRanged s at 1 255)
-    (λ first at. andThen (readRanged s at 1 255)
+    andThen (readRanged s at 1 mostSeconds)
+    (λ first at. andThen (readRanged s at 1 mostSeconds)
     (λ next at. terms.Offered (offered (priceOf mantissa decimals) first next) at)
     terms.Refused)
     terms.Refused
@@ -106,9 +120,9 @@ readRate s at =
 -- What follows a status: 0 deletes, 1 blocks, 2 has a rate; another is refusal 3.
 abbrev pub statusField : List ℕ → ℕ → ℕ → Terms
 statusField s status at =
-    cond (eqb status 0) (terms.Offered Closed at)
-    (cond (eqb status 1) (terms.Offered Blocked at)
-    (cond (eqb status 2) (readRate s at) (terms.Refused unknownKind)))
+    cond (eqb status deletes) (terms.Offered Closed at)
+    (cond (eqb status blocks) (terms.Offered Blocked at)
+    (cond (eqb status hasRate) (readRate s at) (terms.Refused unknownKind)))
 
 -- A line's status, and its rate where it has one.
 unfoldable pub readTerms : List ℕ → ℕ → Terms
@@ -204,3 +218,55 @@ p7-p8-lines :
 unfolding readLine readCode codeField readTerms readRate readIncrements readListed listedField
     readRanged readNumber key digits isCode country priceOf
 p7-p8-lines = refl
+
+-- code 1 deleted, and blocked from day 6
+plain-lines :
+    readLine 0 0 0 (1 ∷ 1 ∷ 0 ∷ 0 ∷ []) ∷ readLine 0 0 0 (1 ∷ 1 ∷ 1 ∷ 7 ∷ []) ∷ []
+    ≡ line.Read (lineOf (key (1 ∷ [])) Closed 0) 4 ∷ line.Read (lineOf (key (1 ∷ [])) Blocked 7) 4 ∷ []
+unfolding readLine readCode codeField readTerms readRate readIncrements readListed listedField
+    readRanged readNumber key digits isCode country priceOf
+plain-lines = refl
+
+-- no byte, and 0 in two bytes; a digit count of 0 and of 16, a value above its digits; status 3; 13 decimals, a mantissa above
+-- 10^10; a first increment of 0, a next one of 256; a last field of 65,002; no last field
+lines-refused :
+    readLine 0 0 0 []
+    ∷ readLine 0 0 0 (128 ∷ 0 ∷ [])
+    ∷ readLine 0 0 0 (0 ∷ [])
+    ∷ readLine 0 0 0 (16 ∷ [])
+    ∷ readLine 0 0 0 (1 ∷ 10 ∷ [])
+    ∷ readLine 0 0 0 (1 ∷ 1 ∷ 3 ∷ [])
+    ∷ readLine 0 0 0 (1 ∷ 1 ∷ 2 ∷ 13 ∷ [])
+    ∷ readLine 0 0 0 (1 ∷ 1 ∷ 2 ∷ 0 ∷ 129 ∷ 200 ∷ 175 ∷ 160 ∷ 37 ∷ [])
+    ∷ readLine 0 0 0 (1 ∷ 1 ∷ 2 ∷ 0 ∷ 0 ∷ 0 ∷ [])
+    ∷ readLine 0 0 0 (1 ∷ 1 ∷ 2 ∷ 0 ∷ 0 ∷ 1 ∷ 128 ∷ 2 ∷ [])
+    ∷ readLine 0 0 0 (1 ∷ 1 ∷ 0 ∷ 234 ∷ 251 ∷ 3 ∷ [])
+    ∷ readLine 0 0 0 (1 ∷ 1 ∷ 0 ∷ [])
+    ∷ []
+    ≡ line.Refused 1
+    ∷ line.Refused 2
+    ∷ line.Refused 4
+    ∷ line.Refused 4
+    ∷ line.Refused 4
+    ∷ line.Refused 3
+    ∷ line.Refused 4
+    ∷ line.Refused 4
+    ∷ line.Refused 4
+    ∷ line.Refused 4
+    ∷ line.Refused 4
+    ∷ line.Refused 1
+    ∷ []
+unfolding readLine readCode codeField readTerms readRate readIncrements readListed listedField
+    readRanged readNumber key digits isCode country priceOf
+lines-refused = refl
+
+-- a line at a place: the first, the one after it, and none at the end
+lines-at :
+    lineAt (1 ∷ 1 ∷ 0 ∷ 0 ∷ 1 ∷ 7 ∷ 1 ∷ 0 ∷ []) 0
+    ∷ lineAt (1 ∷ 1 ∷ 0 ∷ 0 ∷ 1 ∷ 7 ∷ 1 ∷ 0 ∷ []) 4
+    ∷ lineAt (1 ∷ 1 ∷ 0 ∷ 0 ∷ 1 ∷ 7 ∷ 1 ∷ 0 ∷ []) 8
+    ∷ []
+    ≡ line.Read (lineOf (key (1 ∷ [])) Closed 0) 4 ∷ line.Read (lineOf (key (7 ∷ [])) Blocked 0) 8 ∷ line.Refused 1 ∷ []
+unfolding lineAt readLine readCode codeField readTerms readRate readIncrements readListed listedField
+    readRanged readNumber key digits isCode country priceOf
+lines-at = refl

@@ -12,6 +12,13 @@ use rate::Day;
 use rate::Offer;
 use varint::Number;
 
+// A line's status.
+pub const DELETES: u64 = 0;
+
+pub const BLOCKS: u64 = 1;
+
+pub const HAS_RATE: u64 = 2;
+
 // A line: its code's key, what it offers from its effective day on (closed for a delete), and its last field as sent: the
 // listed day plus one, or 0 for none.
 pub struct Line {

@@ -23,6 +23,7 @@ fn offer_of(mantissa: u64, decimals: u64, first: u64, next: u64) -> Offer
             next: next as u8,
         },
         Priced::Block => Offer::Blocked,
+        // Not reached: mantissa and decimals were read within their ranges.
         Priced::OutOfRange => Offer::Blocked,
     }
 }
@@ -73,13 +74,13 @@ pub fn read_terms(s: &[u8], at: usize) -> Terms
     match varint::read_field(s, at) {
         Number::Refused(e) => Terms::Refused(e),
         Number::Value(status, next) => {
-            if status == 0 {
+            if status == crate::DELETES {
                 return Terms::Offered(Offer::Closed, next);
             }
-            if status == 1 {
+            if status == crate::BLOCKS {
                 return Terms::Offered(Offer::Blocked, next);
             }
-            if status == 2 {
+            if status == crate::HAS_RATE {
                 return read_rate(s, next);
             }
             Terms::Refused(refusal::UNKNOWN_KIND)

@@ -15,7 +15,7 @@ use Rattle.rate.specs.Price.{rate, priceOf}
 use Rattle.rate.specs.declared.Offer.{Offer}
 use Rattle.rate.specs.declared.Offer.the-variants.{Closed, Blocked, Open}
 use Rattle.varint.specs.Ranged.{readRanged}
-use Rattle.notice_line.specs.LineRule.{lineOf, codeField, readCode, readIncrements, readRate, readTerms}
+use Rattle.notice_line.specs.LineRule.{deletes, blocks, hasRate, lineOf, codeField, readCode, readIncrements, readRate, readTerms}
 use Rattle.notice_line.specs.LineRule.{listedField, readListed, readLine}
 use Rattle.notice.specs.NoticeRule.{replacement, isCountryCode, readCountry, readNamed, readDated, readHeader}
 use Rattle.notice.specs.NoticeRule.{readLines, Notice, notice, readNotice}
@@ -27,9 +27,9 @@ sentDecimals = 8
 
 -- What an offer sends: status 0 deletes, 1 blocks, 2 has a rate, with decimals, mantissa and increments.
 unfoldable pub offerFields : Offer → List ℕ
-offerFields Closed = 0 ∷ []
-offerFields Blocked = 1 ∷ []
-offerFields (Open r first next) = 2 ∷ sentDecimals ∷ r .0 ∷ first ∷ next ∷ []
+offerFields Closed = deletes ∷ []
+offerFields Blocked = blocks ∷ []
+offerFields (Open r first next) = hasRate ∷ sentDecimals ∷ r .0 ∷ first ∷ next ∷ []
 
 -- A line's fields: digit count and value of its code, its offer's fields, and its last field.
 unfoldable pub lineFields : Line → List ℕ
@@ -76,16 +76,25 @@ lines-sent :
 unfolding lineFields key
 lines-sent = refl
 
--- an update, and replacements of 7, of 44 and of 234
+-- each kind: a full, a partial, an update, and replacements of 7, of 44 and of 234
 headers-sent :
-    headerFields 3 100 0 1 ∷ headerFields 4 100 7 1 ∷ headerFields 4 100 44 2 ∷ headerFields 4 100 234 300 ∷ []
-    ≡ (3 ∷ 100 ∷ 1 ∷ [])
+    headerFields 1 100 0 1 ∷ headerFields 2 0 0 65535 ∷ headerFields 3 100 0 1 ∷ headerFields 4 100 7 1 ∷ headerFields 4 100 44 2 ∷ headerFields 4 100 234 300 ∷ []
+    ≡ (1 ∷ 100 ∷ 1 ∷ [])
+    ∷ (2 ∷ 0 ∷ 65535 ∷ [])
+    ∷ (3 ∷ 100 ∷ 1 ∷ [])
     ∷ (4 ∷ 100 ∷ 1 ∷ 7 ∷ 1 ∷ [])
     ∷ (4 ∷ 100 ∷ 2 ∷ 44 ∷ 2 ∷ [])
     ∷ (4 ∷ 100 ∷ 3 ∷ 234 ∷ 300 ∷ [])
     ∷ []
 unfolding headerFields
 headers-sent = refl
+
+-- the bytes of a line that deletes, and of the header of a replacement
+bytes-sent :
+    encodeLine (lineOf (key (4 ∷ 4 ∷ [])) Closed 300) ∷ encodeHeader 4 100 234 300 ∷ []
+    ≡ (2 ∷ 44 ∷ 0 ∷ 0xAC ∷ 2 ∷ []) ∷ (4 ∷ 100 ∷ 3 ∷ 0xEA ∷ 1 ∷ 0xAC ∷ 2 ∷ []) ∷ []
+unfolding encodeLine encodeHeader key
+bytes-sent = refl
 
 -- P1's notice, its bytes, and two other encodings of it: 0.09 as 9 with 2 decimals and as 90 with 3
 p1 : Notice

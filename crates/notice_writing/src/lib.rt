@@ -101,11 +101,11 @@ pub fn write_line(out: &mut [u8], at: usize, line: Line) -> Written
     let offer = line.offer;
     match offer {
         Offer::Closed => {
-            let fields = [code.count, code.value, 0, listed];
+            let fields = [code.count, code.value, notice_line::DELETES, listed];
             varint_writing::write_numbers(out, at, &fields)
         }
         Offer::Blocked => {
-            let fields = [code.count, code.value, 1, listed];
+            let fields = [code.count, code.value, notice_line::BLOCKS, listed];
             varint_writing::write_numbers(out, at, &fields)
         }
         Offer::Open { rate, first, next } => {
@@ -113,7 +113,7 @@ pub fn write_line(out: &mut [u8], at: usize, line: Line) -> Written
             let fields = [
                 code.count,
                 code.value,
-                2,
+                notice_line::HAS_RATE,
                 SENT_DECIMALS,
                 price,
                 first as u64,
