@@ -12,7 +12,7 @@ ghost use Rattle.varint_writing.specs.Several.{encodeAll, encodableAll, 
 // The least number that nine groups do not hold, 2 to the power 63.
 const TOO_LARGE: u64 = 0x8000_0000_0000_0000;
 
-// What writing came to: the position after the number, or why nothing was written.
+// What writing came to: the position after the last number, or why nothing was written.
 pub enum Written {
     UpTo(usize),
     NoRoom,
