@@ -141,7 +141,7 @@ abbrev pub scanned : Lines → Scan
 scanned (lines ls) = scan.Earliest (earliest ls)
 scanned (refused e) = scan.Refused e
 
--- Where the first line of a notice starts.
+-- Where the first line of a notice starts; after a refused header nothing is told of it.
 abbrev pub startOf : HeaderRead → ℕ
 startOf (header.Leads h) = h .start
 startOf (header.Refused e) = 0

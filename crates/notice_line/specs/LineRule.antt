@@ -93,7 +93,8 @@ unfoldable pub readCode : ℕ → ℕ → List ℕ → ℕ → Number
 readCode named before s at =
     andThen (readRanged s at 1 mostDigits) (λ count at. andThen (readNumber s at) (codeField named before count) Refused) Refused
 
--- The offer of a rate and its increments: above the dearest open rate it is a block, and its increments are dropped.
+-- The offer of a rate and its increments: above the dearest open rate it is a block, and its increments are dropped. A price
+-- out of range is not reached: decimals and mantissa are read within their ranges.
 abbrev pub offered : Priced → ℕ → ℕ → Offer
 offered (priced.Open r) first next = Open r first next
 offered priced.Block first next = Blocked
