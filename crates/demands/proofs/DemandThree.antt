@@ -14,7 +14,7 @@ use Rattle.country_code.specs.declared.Country.the-variants.{None}
 use Rattle.rate.specs.Time.{isDay}
 use Rattle.rate.specs.declared.Day.{Day}
 use Rattle.notice.specs.NoticeRule.{Notice, notice, readNotice, full}
-use Rattle.notice.specs.declared.Line.{Line}
+use Rattle.notice_line.specs.declared.Line.{Line}
 use Rattle.book.specs.Layout.{periodOf, receivedOf, held, entriesOf}
 use Rattle.book.specs.Soundness.{sound}
 use Rattle.book.specs.Answers.{freshRefusal, freshBook}

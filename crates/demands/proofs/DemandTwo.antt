@@ -10,15 +10,15 @@ use Rattle.dial_code.specs.Key.{codeKey, codeOf}
 use Rattle.country_code.specs.Code.{isCodeKey}
 use Rattle.dial_code.specs.declared.Keyed.the-variants.{Key}
 use Rattle.country_code.proofs.SentBack as codes
-use Rattle.notice.specs.LineRule.{readLine}
+use Rattle.notice_line.specs.LineRule.{readLine}
 use Rattle.notice.specs.NoticeRule.{Notice, notice, unread, readNotice}
-use Rattle.notice.specs.Layout.{encodeLine, encodeNotice}
-use Rattle.notice.specs.declared.Line.{Line}
-use Rattle.notice.specs.declared.LineRead.the-variants as line
-use Rattle.notice.proofs.LineLaws.{ValidLine}
-use Rattle.notice.proofs.LineBack as back
+use Rattle.notice_writing.specs.Layout.{encodeLine, encodeNotice}
+use Rattle.notice_line.specs.declared.Line.{Line}
+use Rattle.notice_line.specs.declared.LineRead.the-variants as line
+use Rattle.notice_line.proofs.LineLaws.{ValidLine}
+use Rattle.notice_writing.proofs.LineBack as back
 use Rattle.notice.proofs.NoticeLaws as laws
-use Rattle.notice.proofs.NoticeBack as backs
+use Rattle.notice_writing.proofs.NoticeBack as backs
 use Rattle.dial_code.specs.Digits.{isWritten, isDialled}
 use Rattle.rate.specs.Time.{lastReceivedDay, isDay, isReceivedDay}
 use Rattle.rate.specs.declared.Day.{Day}

@@ -4,7 +4,7 @@ use mathlib.Core.Bool.{true, false}
 use Prim.Native.Nat.{ℕ, max}
 use Rattle.rate.specs.OfferWord.{wordOf}
 use Rattle.rate.specs.declared.Offer.{Offer}
-use Rattle.notice.specs.declared.Line.{Line}
+use Rattle.notice_line.specs.declared.Line.{Line}
 use Rattle.book.specs.Layout.{entry}
 use Rattle.effect.specs.Lines.{raises, wantedBy, effectiveBy, changeBy}
 use Rattle.effect.specs.declared.Plan.{Plan}

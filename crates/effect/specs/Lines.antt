@@ -8,8 +8,8 @@ use Rattle.rate.specs.Price.{rate}
 use Rattle.rate.specs.OfferWord.{wordOf}
 use Rattle.rate.specs.declared.Offer.{Offer}
 use Rattle.rate.specs.declared.Offer.the-variants.{Closed, Blocked, Open}
-use Rattle.notice.specs.LineRule.{lineOf}
-use Rattle.notice.specs.declared.Line.{Line}
+use Rattle.notice_line.specs.LineRule.{lineOf, listedDay}
+use Rattle.notice_line.specs.declared.Line.{Line}
 use Rattle.book.specs.Layout.{entry}
 use Rattle.book.specs.declared.Entry.{Entry}
 use Rattle.lookup.specs.Search.{bestFound}
@@ -28,7 +28,7 @@ raises found (Open r first next) = above r found
 
 -- The larger of the received day and the listed day.
 abbrev pub wantedBy : Plan → Line → ℕ
-wantedBy p l = max (p .received) (l .listed - 1)
+wantedBy p l = max (p .received) (listedDay (l .listed))
 
 -- The effective day of a line, its change of its code, and those of all lines.
 unfoldable pub effectiveBy : Plan → (ℕ → ℕ → Offer) → Line → ℕ

@@ -6,7 +6,7 @@ ghost use Rattle.effect.specs.Closings.{isMarked, closesBy, closedAnyway
 use book::Entry;
 use country_code::Country;
 use country_code::Stretch;
-use notice::Line;
+use notice_line::Line;
 use rate::Offer;
 
 // `noticed` where every line waits for the floor; `closing` is the day on which unlisted codes close.
@@ -60,7 +60,7 @@ fn is_increase(found: Offer, offer: Offer) -> bool
 fn effective_day(old: &[u64], plan: Plan, line: Line) -> u64
     ensures { λ r. ⌜ r ≡ effectiveBy plan (foundIn (now (old .entry))) line ⌝ }
 {
-    let wanted = later(plan.received, notice::listed_day(line.listed));
+    let wanted = later(plan.received, notice_line::listed_day(line.listed));
     if plan.noticed {
         return later(wanted, plan.floor);
     }

@@ -12,7 +12,7 @@ use Rattle.rate.specs.OfferWord.{inRange}
 use Rattle.rate.specs.declared.Offer.{Offer}
 use Rattle.rate.specs.declared.Offer.the-variants.{Closed}
 use Rattle.notice.specs.NoticeRule.{Notice, notice, readNotice, replacement}
-use Rattle.notice.specs.declared.Line.{Line}
+use Rattle.notice_line.specs.declared.Line.{Line}
 use Rattle.notice.proofs.LinesLaws.{ValidFrom}
 use Rattle.notice.proofs.NoticeLaws.{notice-valid}
 use Rattle.history.specs.Effect.{Known, listed, Change, from, nothing, wanted, floorOf, noticed, outOfSequence, isIncrease, effective, lineFor, closes, firstNoticed, closing, listedChange, changeOf, changed, latestEffective, afterNotice}

@@ -13,9 +13,9 @@ use Rattle.rate.specs.Price.{rate}
 use Rattle.rate.specs.declared.Rate.{Rate}
 use Rattle.rate.specs.declared.Offer.{Offer}
 use Rattle.rate.specs.declared.Offer.the-variants.{Closed, Blocked, Open}
-use Rattle.notice.specs.LineRule.{lineOf}
+use Rattle.notice_line.specs.LineRule.{lineOf, listedDay}
 use Rattle.notice.specs.NoticeRule.{Notice, full, partial, update, replacement}
-use Rattle.notice.specs.declared.Line.{Line}
+use Rattle.notice_line.specs.declared.Line.{Line}
 use Rattle.lookup.specs.Match.{longest, matched}
 
 -- What the notices before give: the status of each code, by its key, on each day, and the latest effective day of their lines.
@@ -25,7 +25,7 @@ pub record Known : Type 0 where
 
 -- Wanted day: the larger of the received day and the listed day, or the received day if none.
 abbrev pub wanted : Notice → Line → ℕ
-wanted n l = max (n .received) (l .listed - 1)
+wanted n l = max (n .received) (listedDay (l .listed))
 
 -- The floor: the received day and the notice period after it.
 abbrev pub floorOf : ℕ → Notice → ℕ

@@ -1,35 +1,42 @@
--- The laws of varint, stated again in full: numbers in groups of seven bits (document 01, "Notice layout"). Assumes nothing.
+-- The laws of varint and varint_writing, stated again in full: numbers in groups of seven bits (document 01, "Notice layout"). Assumes nothing.
 use mathlib.Core.Path.{_≡_}
+use mathlib.Core.Bool.{true}
 use mathlib.Core.Logic.{_⊎_, _↔_}
-use mathlib.Core.List.{List, _++_}
+use mathlib.Core.List.{List, _∷_, _++_}
 use Prim.Native.Nat.{ℕ, _+_, _^_, _≤_, _<_}
 use lib.ListN.{length, getD, take, drop}
 use Rattle.refusal.specs.Refusal.{bytesEnd, notShortest}
 use Rattle.varint.specs.declared.Number.the-variants.{Value, Refused}
 use Rattle.varint.specs.Reading.{from, readNumber}
-use Rattle.varint.specs.Writing.{encode, answer, left}
+use Rattle.varint_writing.specs.Writing.{encode}
+use Rattle.varint_writing.specs.Several.{encodeAll, encodableAll, leavesAll}
 use Rattle.varint.proofs.Laws as laws
+use Rattle.varint_writing.proofs.Laws as written
+use Rattle.varint_writing.proofs.Several as several
 
 -- Reading and writing are inverse.
 
 -- A number's bytes read as the number, wherever they stand.
 pub reads-back : (pre post : List ℕ) (n : ℕ) → n < 2 ^ 63
     → readNumber (pre ++ encode n ++ post) (length pre) ≡ Value n (length pre + length (encode n))
-reads-back = laws.reads-back
+reads-back = written.reads-back
 
--- What write_number leaves where there is room reads as the number.
-pub written-reads-back : (s : List ℕ) (at n : ℕ) → n < 2 ^ 63 → at + length (encode n) ≤ length s
-    → readNumber (left (answer (length s) at n) s at n) at ≡ Value n (at + length (encode n))
-written-reads-back = laws.written-reads-back
+-- Each number that write_numbers writes reads as itself, at the place after those before it.
+pub written-reads-back : (s : List ℕ) (at : ℕ) (ms : List ℕ) (n : ℕ) (ns : List ℕ)
+    → encodableAll (ms ++ (n ∷ ns)) ≡ true
+    → at + length (encodeAll (ms ++ (n ∷ ns))) ≤ length s
+    → readNumber (leavesAll s at (ms ++ (n ∷ ns))) (at + length (encodeAll ms))
+    ≡ Value n (at + length (encodeAll ms) + length (encode n))
+written-reads-back = several.written-reads-back
 
 -- A number that is read stands there in its one encoding.
 pub only-encoding : (s : List ℕ) (at n end : ℕ) → ((i : ℕ) → getD s i 0 < 256) → readNumber s at ≡ Value n end
     → (s ≡ take at s ++ encode n ++ drop end s) × (end ≡ at + length (encode n))
-only-encoding = laws.only-encoding
+only-encoding = written.only-encoding
 
 -- Two numbers have two encodings.
 pub injective : (m n : ℕ) → m < 2 ^ 63 → n < 2 ^ 63 → encode m ≡ encode n → m ≡ n
-injective = laws.injective
+injective = written.injective
 
 -- Bounds.
 
@@ -43,11 +50,11 @@ below = laws.below
 
 -- An encoding has one to nine bytes.
 pub size : (n : ℕ) → (1 ≤ length (encode n)) × (length (encode n) ≤ 9)
-size = laws.size
+size = written.size
 
 -- Each of them is a byte.
 pub bytes : (n i : ℕ) → getD (encode n) i 0 < 256
-bytes = laws.bytes
+bytes = written.bytes
 
 -- Refusals.
 

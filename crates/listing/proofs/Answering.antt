@@ -9,19 +9,19 @@ use lib.Dec.{eqb, leb}
 use lib.ListN.{length, length-append}
 use lib.Seq.{sets, sets-eq, length-sets}
 use Rattle.refusal.specs.Refusal.{bufferTooShort, timeOutOfRange, noOffer}
-use Rattle.varint.specs.Several.{sizeOfAll, answerAll, leavesAll}
-use Rattle.varint.specs.declared.Written.{Written}
-use Rattle.varint.specs.declared.Written.the-variants.{UpTo}
-use Rattle.varint.proofs.Several.{sets-append}
+use Rattle.varint_writing.specs.Several.{sizeOfAll, answerAll, leavesAll}
+use Rattle.varint_writing.specs.declared.Written.{Written}
+use Rattle.varint_writing.specs.declared.Written.the-variants.{UpTo}
+use Rattle.varint.proofs.Slices.{sets-append}
 use Rattle.dial_code.proofs.Tests.{positive}
 use Rattle.rate.specs.Time.{isReceivedDay, lastReceivedDay}
 use Rattle.rate.specs.declared.Day.{Day}
 use Rattle.notice.specs.NoticeRule.{full}
-use Rattle.notice.specs.Layout.{headerFields, encodeHeader, encodeLines}
-use Rattle.notice.specs.declared.Line.{Line}
-use Rattle.notice.proofs.LayoutLaws.{header-bytes, notice-bytes}
-use Rattle.notice.proofs.NoticeBack.{Leads, valid-leads}
-use Rattle.notice.proofs.Sizes.{header-encodable, header-sized}
+use Rattle.notice_writing.specs.Layout.{headerFields, encodeHeader, encodeLines}
+use Rattle.notice_line.specs.declared.Line.{Line}
+use Rattle.notice_writing.proofs.LayoutLaws.{header-bytes, notice-bytes}
+use Rattle.notice_writing.proofs.NoticeBack.{Leads, valid-leads}
+use Rattle.notice_writing.proofs.Sizes.{header-encodable, header-sized}
 use Rattle.book.specs.Layout.{entriesOf}
 use Rattle.book.specs.Soundness.{sound}
 use Rattle.book.specs.Answers.{bookRefusal}

@@ -13,7 +13,7 @@ use Rattle.rate.specs.declared.Offer.the-variants.{Closed, Blocked, Open}
 use Rattle.rate.specs.declared.Stored.{Stored}
 use Rattle.rate.specs.declared.Stored.the-variants.{Holds, Invalid}
 use Rattle.rate.proofs.Words.{only-word}
-use Rattle.notice.specs.declared.Line.{Line}
+use Rattle.notice_line.specs.declared.Line.{Line}
 use Rattle.book.specs.Soundness.{isHeld, isOfferWord}
 use Rattle.book.specs.Status.{statusFrom, statusIn, heldOffer, offerIn}
 use Rattle.lookup.specs.Match.{isStanding}

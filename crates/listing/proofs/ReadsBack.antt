@@ -12,9 +12,9 @@ use lib.Seq.{take-append-seam}
 use Rattle.rate.specs.Time.{lastReceivedDay}
 use Rattle.rate.specs.declared.Day.{Day}
 use Rattle.notice.specs.NoticeRule.{notice, readNotice}
-use Rattle.notice.specs.Layout.{encodeNotice}
-use Rattle.notice.specs.declared.Line.{Line}
-use Rattle.notice.proofs.NoticeBack.{notice-back}
+use Rattle.notice_writing.specs.Layout.{encodeNotice}
+use Rattle.notice_line.specs.declared.Line.{Line}
+use Rattle.notice_writing.proofs.NoticeBack.{notice-back}
 use Rattle.book.specs.Layout.{entriesOf}
 use Rattle.book.specs.Answers.{bookRefusal}
 use Rattle.book.proofs.Usable.{usable-sound}

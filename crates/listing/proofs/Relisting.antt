@@ -13,10 +13,10 @@ use Rattle.rate.specs.OfferWord.{offerOf, wordOf}
 use Rattle.rate.specs.declared.Offer.{Offer}
 use Rattle.rate.specs.declared.Offer.the-variants.{Closed, Blocked, Open}
 use Rattle.rate.proofs.Words.{closed-word}
-use Rattle.notice.specs.LineRule.{lineOf}
+use Rattle.notice_line.specs.LineRule.{lineOf}
 use Rattle.notice.specs.NoticeRule.{replacement}
-use Rattle.notice.specs.Layout.{encodeNotice}
-use Rattle.notice.specs.declared.Line.{Line}
+use Rattle.notice_writing.specs.Layout.{encodeNotice}
+use Rattle.notice_line.specs.declared.Line.{Line}
 use Rattle.notice.proofs.LinesLaws.{ValidFrom}
 use Rattle.book.specs.Layout.{entry, entriesOf}
 use Rattle.book.specs.Answers.{bookRefusal}

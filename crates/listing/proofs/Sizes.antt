@@ -6,9 +6,9 @@ use mathlib.Core.List.{List, [], _∷_, _++_, append-nil}
 use Prim.Native.Nat.{ℕ, _+_, _*_, _^_, _≤_, _<_}
 use native.Mathlib.Omega.{arith}
 use lib.ListN.{length, length-append}
-use Rattle.varint.specs.Several.{encodeAll, encodableAll, sizeOfAll}
-use Rattle.varint.proofs.Laws.{size-below}
-use Rattle.varint.proofs.Several.{all-nil, all-sized, bytes-nil, length-bytes-cons}
+use Rattle.varint_writing.specs.Several.{encodeAll, encodableAll, sizeOfAll}
+use Rattle.varint_writing.proofs.Laws.{size-below}
+use Rattle.varint_writing.proofs.Several.{all-nil, all-sized, bytes-nil, length-bytes-cons}
 use Rattle.dial_code.specs.Key.{codeOf}
 use Rattle.rate.specs.OfferWord.{offerOf, inRange}
 use Rattle.rate.specs.declared.Offer.{Offer}
@@ -16,10 +16,10 @@ use Rattle.rate.specs.declared.Offer.the-variants.{Closed, Blocked, Open}
 use Rattle.rate.specs.declared.Stored.{Stored}
 use Rattle.rate.specs.declared.Stored.the-variants.{Holds, Invalid}
 use Rattle.rate.proofs.Words.{only-word, parts}
-use Rattle.notice.specs.Layout.{offerFields, lineFields, encodeLine, encodeLines}
-use Rattle.notice.specs.declared.Line.{Line}
-use Rattle.notice.proofs.LayoutLaws.{line-opens, line-bytes, lines-nil, lines-cons, lines-append}
-use Rattle.notice.proofs.Sizes.{code-fits, one-more, terms-encodable}
+use Rattle.notice_writing.specs.Layout.{offerFields, lineFields, encodeLine, encodeLines}
+use Rattle.notice_line.specs.declared.Line.{Line}
+use Rattle.notice_writing.proofs.LayoutLaws.{line-opens, line-bytes, lines-nil, lines-cons, lines-append}
+use Rattle.notice_writing.proofs.Sizes.{code-fits, one-more, terms-encodable}
 use Rattle.book.specs.Status.{heldOffer}
 use Rattle.book.specs.declared.Entry.{Entry}
 use Rattle.listing.specs.Pass.{stands, entryLine, addedBy}

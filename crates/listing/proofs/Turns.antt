@@ -9,17 +9,18 @@ use borrow.Author.Tests.{le-leb, lt-leb, leb-true, leb-false, lt-ltb, le-ltb, eq
 use lib.Dec.{leb, ltb}
 use lib.ListN.{length, length-append}
 use lib.Seq.{sets, sets-eq, length-sets}
-use Rattle.varint.specs.Several.{encodeAll, encodableAll, sizeOfAll, answerAll, leavesAll}
-use Rattle.varint.specs.declared.Written.{Written}
-use Rattle.varint.specs.declared.Written.the-variants.{UpTo, NoRoom, TooLarge}
-use Rattle.varint.proofs.Several.{writes, sets-append}
+use Rattle.varint_writing.specs.Several.{encodeAll, encodableAll, sizeOfAll, answerAll, leavesAll}
+use Rattle.varint_writing.specs.declared.Written.{Written}
+use Rattle.varint_writing.specs.declared.Written.the-variants.{UpTo, NoRoom, TooLarge}
+use Rattle.varint_writing.proofs.Several.{writes}
+use Rattle.varint.proofs.Slices.{sets-append}
 use Rattle.dial_code.proofs.Tests.{and-left-true, and-left-false, and-right-false}
 use Rattle.rate.specs.OfferWord.{offerOf}
 use Rattle.rate.specs.declared.Stored.{Stored}
-use Rattle.notice.specs.LineRule.{lineOf}
-use Rattle.notice.specs.Layout.{lineFields, encodeLines}
-use Rattle.notice.specs.declared.Line.{Line}
-use Rattle.notice.proofs.LayoutLaws.{line-bytes, lines-nil, lines-append}
+use Rattle.notice_line.specs.LineRule.{lineOf}
+use Rattle.notice_writing.specs.Layout.{lineFields, encodeLines}
+use Rattle.notice_line.specs.declared.Line.{Line}
+use Rattle.notice_writing.proofs.LayoutLaws.{line-bytes, lines-nil, lines-append}
 use Rattle.book.specs.Layout.{headerWords, entryWords, mostEntries, entryAt, entriesFrom, entriesOf}
 use Rattle.book.specs.Soundness.{headedCount, sound}
 use Rattle.book.specs.Status.{heldOffer}

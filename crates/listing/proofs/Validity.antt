@@ -12,7 +12,7 @@ use lib.ListN.{length}
 use Rattle.dial_code.proofs.Tests.{both, and-left-true, positive}
 use Rattle.country_code.proofs.CodeLaws.{no-first-digit}
 use Rattle.rate.specs.Time.{lastReceivedDay}
-use Rattle.notice.proofs.LineLaws.{ValidLine}
+use Rattle.notice_line.proofs.LineLaws.{ValidLine}
 use Rattle.notice.proofs.LinesLaws.{ValidFrom}
 use Rattle.notice.proofs.NoticeLaws.{Valid}
 use Rattle.book.specs.Layout.{entriesOf}

@@ -15,10 +15,10 @@ use Rattle.rate.specs.OfferWord.{offerOf}
 use Rattle.rate.specs.declared.Day.{Day}
 use Rattle.rate.specs.declared.Offer.{Offer}
 use Rattle.rate.specs.declared.Offer.the-variants.{Blocked, Open}
-use Rattle.notice.specs.LineRule.{lineOf}
+use Rattle.notice_line.specs.LineRule.{lineOf}
 use Rattle.notice.specs.NoticeRule.{full, Notice}
-use Rattle.notice.specs.Layout.{encodeNotice}
-use Rattle.notice.specs.declared.Line.{Line}
+use Rattle.notice_writing.specs.Layout.{encodeNotice}
+use Rattle.notice_line.specs.declared.Line.{Line}
 use Rattle.book.specs.Layout.{entriesOf}
 use Rattle.book.specs.Status.{offerIn}
 use Rattle.lookup.specs.Match.{isStanding}

@@ -5,8 +5,8 @@ use mathlib.Core.List.{List, [], _∷_}
 use Prim.Native.Nat.{ℕ}
 use lib.Dec.{eqb, leb}
 use Rattle.rate.specs.OfferWord.{offerOf}
-use Rattle.notice.specs.LineRule.{lineOf}
-use Rattle.notice.specs.declared.Line.{Line}
+use Rattle.notice_line.specs.LineRule.{lineOf}
+use Rattle.notice_line.specs.declared.Line.{Line}
 use Rattle.book.specs.Status.{heldOffer}
 use Rattle.book.specs.declared.Entry.{Entry}
 

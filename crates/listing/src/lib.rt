@@ -6,17 +6,17 @@ ghost use lib.Dec.{leb};
 ghost use lib.ListN.{length};
 ghost use lib.Seq.{sets};
 ghost use Rattle.rate.specs.Time.{isReceivedDay};
-ghost use Rattle.notice.specs.Layout.{encodeLines};
+ghost use Rattle.notice_writing.specs.Layout.{encodeLines};
 ghost use Rattle.book.specs.Layout.{entriesFrom, entriesOf};
 ghost use Rattle.book.specs.Soundness.{sound};
 ghost use Rattle.listing.specs.List.{standingLines, listOf, listed, listAnswer, listBytes};
 ghost use Rattle.listing.specs.Pass.{stands, entryLine, addedBy};
 use book::Entry;
-use notice::Line;
+use notice_line::Line;
 use rate::Day;
 use rate::Offer;
 use rate::Stored;
-use varint::Written;
+use varint_writing::Written;
 
 // What writing a list answers: a refusal number or 0, and the list's length, 0 with a refusal.
 pub struct Listed {
@@ -91,7 +91,7 @@ fn added_size(words: &[u64], at: u32, left: usize, e: Entry, day: u64) -> usize
     if !is_standing(words, at, left, e, day) {
         return 0;
     }
-    notice::line_size(line_of(e))
+    notice_writing::line_size(line_of(e))
 }
 
 // Writes what an entry adds to the list at a place of the lent bytes, and gives the place after it.
@@ -112,7 +112,7 @@ fn write_at(
     if !is_standing(words, at, left, e, day) {
         return from;
     }
-    match notice::write_line(out, from, line_of(e)) {
+    match notice_writing::write_line(out, from, line_of(e)) {
         Written::UpTo(end) => end,
         Written::NoRoom => from,
         Written::TooLarge => from,
@@ -159,7 +159,7 @@ fn is_held(words: &[u64], day: Day, lines: usize, room: usize) -> bool
     requires { ⌜ (lines ≡ length (standingLines (entriesOf (now words)) (day .0))) × (0 < lines) ⌝ }
     ensures { λ r. ⌜ r ≡ leb (length (listOf (now (words .entry)) day)) room ⌝ }
 {
-    let header = notice::header_size(notice::FULL, day.0, 0, lines as u64);
+    let header = notice_writing::header_size(notice::FULL, day.0, 0, lines as u64);
     if header + lines * MOST_LINE <= room {
         return true;
     }
@@ -194,7 +194,7 @@ fn write_all(words: &[u64], day: Day, lines: usize, out: &mut [u8]) -> usize
     ensures { λ r. ⌜ r ≡ length (listOf (now (words .entry)) day) ⌝ }
     ensures { λ _. ⌜ now (out .exit) ≡ sets (now (out .entry)) 0 (listOf (now (words .entry)) day) ⌝ }
 {
-    match notice::write_header(out, 0, notice::FULL, day.0, 0, lines as u64) {
+    match notice_writing::write_header(out, 0, notice::FULL, day.0, 0, lines as u64) {
         Written::UpTo(at) => write_lines(words, day.0, out, at),
         Written::NoRoom => 0,
         Written::TooLarge => 0,

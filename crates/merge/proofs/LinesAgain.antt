@@ -5,11 +5,11 @@ use Prim.Native.Nat.{ℕ, zero, suc, _-_, _≤_, _<_}
 use native.Mathlib.Numerals.{sub-one}
 use native.Mathlib.Omega.{arith}
 use lib.ListN.{length, drop}
-use Rattle.notice.specs.LineRule.{lineAt}
+use Rattle.notice_line.specs.LineRule.{lineAt}
 use Rattle.notice.specs.NoticeRule.{lines, readLines}
-use Rattle.notice.specs.declared.Line.{Line}
-use Rattle.notice.specs.declared.LineRead.{LineRead}
-use Rattle.notice.specs.declared.LineRead.the-variants.{Read, Refused}
+use Rattle.notice_line.specs.declared.Line.{Line}
+use Rattle.notice_line.specs.declared.LineRead.{LineRead}
+use Rattle.notice_line.specs.declared.LineRead.the-variants.{Read, Refused}
 use Rattle.notice.proofs.LinesLaws.{line-next, lines-none}
 use Rattle.merge.specs.Lines.{whereRead, linesAt}
 

@@ -7,7 +7,7 @@ use native.Mathlib.Omega.{arith}
 use lib.ListN.{length, length-append}
 use Rattle.dial_code.specs.Key.{keysEnd}
 use Rattle.rate.specs.declared.Offer.{Offer}
-use Rattle.notice.specs.declared.Line.{Line}
+use Rattle.notice_line.specs.declared.Line.{Line}
 use Rattle.book.specs.Layout.{headerWords, entriesFrom}
 use Rattle.book.specs.Soundness.{headedCount}
 use Rattle.book.specs.declared.Entry.{Entry}

@@ -8,11 +8,11 @@ use native.Mathlib.Omega.{arith}
 use lib.ListN.{length}
 use lib.Seq.{sets}
 use Rattle.dial_code.specs.Key.{keysEnd}
-use Rattle.notice.specs.LineRule.{lineAt}
+use Rattle.notice_line.specs.LineRule.{lineAt}
 use Rattle.notice.specs.NoticeRule.{mostLines}
-use Rattle.notice.specs.declared.Line.{Line}
-use Rattle.notice.specs.declared.LineRead.{LineRead}
-use Rattle.notice.specs.declared.LineRead.the-variants.{Read, Refused}
+use Rattle.notice_line.specs.declared.Line.{Line}
+use Rattle.notice_line.specs.declared.LineRead.{LineRead}
+use Rattle.notice_line.specs.declared.LineRead.the-variants.{Read, Refused}
 use Rattle.book.specs.Layout.{headerWords, entryWords, latestOf, entriesFrom, wordsOf}
 use Rattle.book.specs.Soundness.{headedCount}
 use Rattle.book.specs.declared.Entry.{Entry}

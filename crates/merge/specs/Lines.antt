@@ -2,10 +2,10 @@
 -- has been checked they are its lines (proofs/LinesAgain.antt).
 use mathlib.Core.List.{List, [], _∷_}
 use Prim.Native.Nat.{ℕ, zero, suc}
-use Rattle.notice.specs.LineRule.{lineAt}
-use Rattle.notice.specs.declared.Line.{Line}
-use Rattle.notice.specs.declared.LineRead.{LineRead}
-use Rattle.notice.specs.declared.LineRead.the-variants.{Read, Refused}
+use Rattle.notice_line.specs.LineRule.{lineAt}
+use Rattle.notice_line.specs.declared.Line.{Line}
+use Rattle.notice_line.specs.declared.LineRead.{LineRead}
+use Rattle.notice_line.specs.declared.LineRead.the-variants.{Read, Refused}
 
 abbrev pub whereRead : LineRead → (Line → ℕ → List Line) → List Line
 whereRead (Read l end) f = f l end

@@ -7,7 +7,7 @@ use lib.ListN.{length}
 use lib.Seq.{sets}
 use Rattle.dial_code.specs.Key.{keysEnd}
 use Rattle.notice.specs.NoticeRule.{mostLines}
-use Rattle.notice.specs.declared.Line.{Line}
+use Rattle.notice_line.specs.declared.Line.{Line}
 use Rattle.book.specs.Layout.{headerWords, entryWords, mostEntries, mostWords, latestOf, entriesFrom, wordsOf}
 use Rattle.book.specs.Soundness.{headedCount}
 use Rattle.book.specs.declared.Entry.{Entry}

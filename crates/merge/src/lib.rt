@@ -10,7 +10,7 @@ ghost use Rattle.merge.specs.Passes.{goesOn, unlistedAs, gapBelow, restF
 ghost use Rattle.merge.specs.Merge.{mostMerged, stored, stands, Passed, PassedListed, mergedAnswer, mergedLeaves};
 use book::Entry;
 use effect::Plan;
-use notice::LineRead;
+use notice_line::LineRead;
 
 // What a merge comes to: how many entries, and the latest effective day.
 pub struct Merged {
@@ -256,7 +256,7 @@ pub fn merge(
     let mut at = start;
     let mut left = lesser(lines, notice::MOST_LINES);
     while 0 < left {
-        match notice::line_at(notice, at) {
+        match notice_line::line_at(notice, at) {
             LineRead::Refused(_) => {
                 left = 0;
             }

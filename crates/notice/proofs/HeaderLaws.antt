@@ -13,13 +13,14 @@ use Rattle.varint.specs.declared.Number.{Number}
 use Rattle.varint.specs.declared.Number.the-variants.{Value, Refused}
 use Rattle.dial_code.specs.Digits.{digits}
 use Rattle.dial_code.proofs.Tests.{both}
-use Rattle.notice.specs.Field.{readRanged}
+use Rattle.varint.specs.Ranged.{readRanged}
 use Rattle.notice.specs.NoticeRule.{isCountryCode, readCountry, readNamed, readDated, readHeader}
 use Rattle.notice.specs.declared.Header.{Header}
 use Rattle.notice.specs.declared.HeaderRead.{HeaderRead}
 use Rattle.notice.specs.declared.HeaderRead.the-variants as header
-use Rattle.notice.proofs.Codes.{country-some}
-use Rattle.notice.proofs.Told.{Known, Told, then-told, either, Spans, number-told, Ranged, ranged-told}
+use Rattle.notice.proofs.Countries.{country-some}
+use Rattle.varint.proofs.Told.{Known, Told, then-told, Spans, number-told, Ranged, ranged-told}
+use Rattle.varint.proofs.Links.{either}
 
 -- A country that is read is not 0.
 record Country (s : List ℕ) (at n end : ℕ) : Type 0 where

@@ -1,40 +1,20 @@
 -- The numbers that a reader gives one by one from the start of a notice make the header that the rule reads. Assumes nothing.
-use mathlib.Core.Path.{_≡_, refl, ap, subst}
+use mathlib.Core.Path.{_≡_, refl, ap}
 use mathlib.Core.Bool.{Bool, true, false, cond, _&&_}
 use mathlib.Core.List.{List}
-use Prim.Native.Nat.{ℕ, _^_, _≤_}
+use Prim.Native.Nat.{ℕ, _^_}
 use lib.Dec.{eqb, leb, ltb}
-use borrow.Author.Tests.{leb-true}
 use Rattle.varint.specs.Reading.{readNumber}
 use Rattle.varint.specs.Standing.{placeAfter}
 use Rattle.varint.specs.declared.Number.{Number}
 use Rattle.varint.specs.declared.Number.the-variants.{Value, Refused}
 use Rattle.dial_code.specs.Digits.{digits}
-use Rattle.dial_code.proofs.Tests.{both}
-use Rattle.notice.specs.Field.{andThen, inRange, readRanged}
+use Rattle.varint.specs.Ranged.{andThen, inRange, readRanged}
 use Rattle.notice.specs.NoticeRule.{isCountryCode, countryField, readCountry, readNamed, readDated, readHeader}
 use Rattle.notice.specs.Leading.{countryBy, linesBy, datedBy, headerBy}
 use Rattle.notice.specs.declared.HeaderRead.{HeaderRead}
 use Rattle.notice.specs.declared.HeaderRead.the-variants as header
-use Rattle.notice.proofs.Told.{either}
-
--- A number in range is from least to most.
-pub in-range-facts : (read : Number) (least most : ℕ) {n at : ℕ} → inRange read least most ≡ Value n at → (least ≤ n) ×
-    (n ≤ most)
-in-range-facts read least most e = subst Within e (within read)
-  where
-    Within : Number → Type 0
-    Within (Value n at) = (least ≤ n) × (n ≤ most)
-    Within (Refused e) = Unit {0}
-
-    within : (r : Number) → Within (inRange r least most)
-    within (Value n at) =
-        either Within (leb least n && leb n most) _ _
-        (λ t.
-        let b = both (leb least n) (leb n most) t in
-        (leb-true _ _ (b .0), leb-true _ _ (b .1)))
-        (λ t. tt)
-    within (Refused e) = tt
+use Rattle.varint.proofs.Links.{either}
 
 -- The number that a reader gives, and the place where it stands then.
 abbrev pub nextPlace : List ℕ → ℕ → ℕ

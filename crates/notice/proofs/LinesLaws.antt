@@ -4,39 +4,15 @@ use mathlib.Core.Path.{_≡_, refl, ap, sym, _∙_, subst}
 use mathlib.Core.List.{List, [], _∷_}
 use Prim.Native.Nat.{ℕ, zero, suc, _+_, _-_, _≤_, _<_}
 use native.Mathlib.Omega.{arith}
-use lib.ListN.{length, drop, take, length-drop, drop-of-length-le}
-use lib.Seq.{drop-drop, take-all}
-use Rattle.refusal.specs.Refusal.{bytesEnd}
-use Rattle.varint.specs.Reading.{readNumber}
-use Rattle.notice.specs.Field.{readRanged}
-use Rattle.notice.specs.LineRule.{readCode, readLine, lineFrom, lineAt}
+use lib.ListN.{length, drop, length-drop}
+use lib.Seq.{drop-drop}
+use Rattle.notice_line.specs.LineRule.{readLine, lineFrom, lineAt}
 use Rattle.notice.specs.NoticeRule.{Lines, lines, refused, withLine, withFirst, readLines}
-use Rattle.notice.specs.declared.Line.{Line}
-use Rattle.notice.specs.declared.LineRead.{LineRead}
-use Rattle.notice.specs.declared.LineRead.the-variants as line
-use Rattle.notice.proofs.Told.{Known}
-use Rattle.notice.proofs.LineLaws.{ValidLine, Taken, LineTold, line-told, line-spans, line-alone}
-
--- The rest of a slice, as the code takes it.
-pub rest : (s : List ℕ) (at : ℕ) → take (length s - at) (drop at s) ≡ drop at s
-rest s at = take-all (length s - at) (drop at s) (omega (arith, length-drop at s))
-
--- A line at a position, from the line at the front of the rest.
-pub at-read : {r : LineRead} (s : List ℕ) (at : ℕ) → r ≡ readLine 0 0 0 (take (length s - at) (drop at s))
-    → lineAt s at ≡ lineFrom at r
-unfolding lineAt
-at-read s at e = ap (lineFrom at) (ap (readLine 0 0 0) (sym (rest s at)) ∙ sym e)
-
-pub at-end : (s : List ℕ) (at : ℕ) → length s ≤ at → lineAt s at ≡ line.Refused bytesEnd
-unfolding lineAt readLine readCode readRanged readNumber
-at-end s at h = rw (drop-of-length-le s h)
-
--- A line that is read at a position stays within the bytes.
-pub within : (named before last at size : ℕ) (s : List ℕ) (l : Line)
-    → readLine named before last (take (length s - at) (drop at s)) ≡ line.Read l size → at + size ≤ length s
-within named before last at size s l e =
-    let p = line-spans named before last (drop at s) l size (ap (readLine named before last) (sym (rest s at)) ∙ e) in
-    omega (arith, length-drop at s)
+use Rattle.notice_line.specs.declared.Line.{Line}
+use Rattle.notice_line.specs.declared.LineRead.{LineRead}
+use Rattle.notice_line.specs.declared.LineRead.the-variants as line
+use Rattle.varint.proofs.Told.{Known}
+use Rattle.notice_line.proofs.LineLaws.{ValidLine, Taken, LineTold, line-told, line-spans, line-alone}
 
 -- What lines that read tell: the first line, and what follows it.
 pub record More (n named before last : ℕ) (s : List ℕ) (ls : List Line) : Type 0 where

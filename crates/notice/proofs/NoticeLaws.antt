@@ -3,18 +3,14 @@ use mathlib.Core.Path.{_≡_, subst}
 use mathlib.Core.List.{List}
 use Prim.Native.Nat.{ℕ, _≤_, _<_}
 use native.Mathlib.Omega.{arith}
-use lib.ListN.{length, getD, drop}
-use Rattle.country_code.specs.CountryCode.{countryOfKey}
-use Rattle.country_code.specs.declared.Country.the-variants.{Code}
+use lib.ListN.{length, drop}
 use Rattle.notice.specs.NoticeRule.{Lines, lines, refused, readLines, Notice, Reading, notice, unread, withHeader, withLines, readHeader, readNotice}
-use Rattle.notice.specs.declared.Line.{Line}
 use Rattle.notice.specs.declared.Header.{Header}
 use Rattle.notice.specs.declared.HeaderRead.{HeaderRead}
 use Rattle.notice.specs.declared.HeaderRead.the-variants as header
-use Rattle.notice.proofs.Told.{Known}
+use Rattle.varint.proofs.Told.{Known}
 use Rattle.notice.proofs.HeaderLaws.{Leading, HeaderTold, header-told}
 use Rattle.notice.proofs.LinesLaws.{ValidFrom, LinesTold, lines-told}
-use Rattle.notice.proofs.ValidLines.{keys-rise, all-inside}
 
 -- A valid notice: its leading fields are in range, only a replacement names a country, and each line is valid after the one
 -- before it.
@@ -68,13 +64,3 @@ notice-valid s n e = subst NoticeTold e (notice-told s)
 pub notice-refusals : (s : List ℕ) (e : ℕ) → readNotice s ≡ unread e → (1 ≤ e) × (e ≤ 9)
 unfolding NoticeTold
 notice-refusals s e p = subst NoticeTold p (notice-told s)
-
--- What validity says of the lines by index; `d` stands for a line where there is none.
-module _ (n : Notice) (v : Valid n) (d : Line) where
-  -- An earlier line has a smaller key.
-  pub rising : (i j : ℕ) → i < j → j < length (n .lines) → getD (n .lines) i d .key < getD (n .lines) j d .key
-  rising i j h l = keys-rise d (n .country) 0 0 (n .lines) (v .lines-valid) i j h l
-
-  -- Every line of a replacement lies in its country.
-  pub inside : n .kind ≡ 4 → (j : ℕ) → j < length (n .lines) → countryOfKey (getD (n .lines) j d .key) ≡ Code (n .country)
-  inside e j h = all-inside d (n .country) 0 0 (n .lines) (v .lines-valid) (v .named e) j h

@@ -6,14 +6,15 @@ use native.Mathlib.Omega.{arith}
 use lib.ListN.{length, drop, take, drop-of-length-le}
 use lib.Seq.{drop-cons, drop-drop}
 use Rattle.refusal.specs.Refusal.{bytesLeft}
-use Rattle.notice.specs.LineRule.{readLine}
+use Rattle.notice_line.specs.LineRule.{readLine}
 use Rattle.notice.specs.NoticeRule.{Lines, lines, refused, withLine, withFirst, readLines, earliest, scanned}
-use Rattle.notice.specs.declared.Line.{Line}
-use Rattle.notice.specs.declared.LineRead.{LineRead}
-use Rattle.notice.specs.declared.LineRead.the-variants as line
+use Rattle.notice_line.specs.declared.Line.{Line}
+use Rattle.notice_line.specs.declared.LineRead.{LineRead}
+use Rattle.notice_line.specs.declared.LineRead.the-variants as line
 use Rattle.notice.specs.declared.Scan.{Scan}
 use Rattle.notice.specs.declared.Scan.the-variants as scan
-use Rattle.notice.proofs.LinesLaws.{rest, lines-open}
+use Rattle.varint.proofs.Slices.{rest}
+use Rattle.notice.proofs.LinesLaws.{lines-open}
 
 -- A model of the pass: what the lines that are left come to, after lines whose earliest listed day is m.
 unfoldable pub scannedFrom : ℕ → Lines → Scan

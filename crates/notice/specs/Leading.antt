@@ -1,5 +1,6 @@
--- The fields before the lines, from numbers that a reader gave one by one (document 01, "Notice layout"): kind, received day, for
--- a replacement its country's digit count and value, the number of lines.
+-- The fields before the lines, from numbers that a reader gave one by one. A model of the code and no rule: it stands here so
+-- that the contracts of the private functions can cite it. The promise is readHeader (NoticeRule.antt), to which it is proved
+-- equal.
 use mathlib.Core.Bool.{cond, _&&_}
 use Prim.Native.Nat.{ℕ}
 use lib.Dec.{eqb, leb}
@@ -8,7 +9,7 @@ use Rattle.varint.specs.declared.Number.{Number}
 use Rattle.varint.specs.declared.Number.the-variants.{Refused}
 use Rattle.dial_code.specs.Digits.{mostDigits}
 use Rattle.rate.specs.Time.{lastReceivedDay}
-use Rattle.notice.specs.Field.{andThen, inRange}
+use Rattle.varint.specs.Ranged.{andThen, inRange}
 use Rattle.notice.specs.NoticeRule.{mostLines, full, replacement, countryField, headerOf}
 use Rattle.notice.specs.declared.HeaderRead.{HeaderRead}
 use Rattle.notice.specs.declared.HeaderRead.the-variants as header

@@ -1,6 +1,3 @@
--- The rules of price notices: read, checked and written.
-pub mod Field
-pub mod LineRule
+-- The rules of a whole notice, and the header from numbers that a reader gave.
 pub mod NoticeRule
-pub mod Layout
 pub mod Leading

@@ -3,7 +3,7 @@
 use mathlib.Core.Path.{_≡_, refl}
 use mathlib.Core.Bool.{Bool, cond, _&&_}
 use mathlib.Core.List.{List, [], _∷_}
-use Prim.Native.Nat.{ℕ, zero, suc, _-_, _^_, min}
+use Prim.Native.Nat.{ℕ, zero, suc, _^_, min}
 use lib.Dec.{eqb, leb, ltb}
 use lib.ListN.{length, drop}
 use Rattle.refusal.specs.Refusal.{outOfRange, unknownKind, codeNotAllowed, bytesLeft}
@@ -17,11 +17,11 @@ use Rattle.country_code.specs.Code.{isCode}
 use Rattle.rate.specs.Time.{lastDay, lastReceivedDay}
 use Rattle.rate.specs.Price.{rate, priceOf}
 use Rattle.rate.specs.declared.Offer.the-variants.{Open}
-use Rattle.notice.specs.Field.{andThen, readRanged}
-use Rattle.notice.specs.LineRule.{lineOf, codeField, readCode, readIncrements, readRate, readTerms, listedField, readListed, readLine}
-use Rattle.notice.specs.declared.Line.{Line}
-use Rattle.notice.specs.declared.LineRead.{LineRead}
-use Rattle.notice.specs.declared.LineRead.the-variants as line
+use Rattle.varint.specs.Ranged.{andThen, readRanged}
+use Rattle.notice_line.specs.LineRule.{lineOf, codeField, readCode, readIncrements, readRate, readTerms, listedField, listedDay, readListed, readLine}
+use Rattle.notice_line.specs.declared.Line.{Line}
+use Rattle.notice_line.specs.declared.LineRead.{LineRead}
+use Rattle.notice_line.specs.declared.LineRead.the-variants as line
 use Rattle.notice.specs.declared.Header.{Header}
 use Rattle.notice.specs.declared.HeaderRead.{HeaderRead}
 use Rattle.notice.specs.declared.HeaderRead.the-variants as header
@@ -134,14 +134,14 @@ readNotice s = withHeader (readHeader s) (λ h. withLines h (readLines (h .lines
 -- The earliest listed day of some lines, where a line that lists none counts as listing day 0.
 unfoldable pub earliest : List Line → ℕ
 earliest [] = lastDay
-earliest (l ∷ ls) = min (l .listed - 1) (earliest ls)
+earliest (l ∷ ls) = min (listedDay (l .listed)) (earliest ls)
 
 -- What a pass over the lines keeps of them.
 abbrev pub scanned : Lines → Scan
 scanned (lines ls) = scan.Earliest (earliest ls)
 scanned (refused e) = scan.Refused e
 
--- Where the first line of a notice starts.
+-- Where the first line of a notice starts; after a refused header nothing is told of it.
 abbrev pub startOf : HeaderRead → ℕ
 startOf (header.Leads h) = h .start
 startOf (header.Refused e) = 0
@@ -184,15 +184,61 @@ unfolding checkNotice readNotice earliest p1 readHeader readDated readNamed read
     priceOf
 p1-checked = refl
 
--- no bytes, kinds 0 and 5, no lines, a replacement of a country that is none
-damaged :
-    readNotice []
-    ∷ readNotice (0 ∷ [])
-    ∷ readNotice (5 ∷ [])
-    ∷ readNotice (3 ∷ 100 ∷ 0 ∷ [])
-    ∷ readNotice (4 ∷ 100 ∷ 3 ∷ 44 ∷ [])
+-- the fields before the lines, of each kind: the last received day and the most lines, and a replacement of 44
+headers :
+    readHeader (1 ∷ 224 ∷ 212 ∷ 3 ∷ 255 ∷ 255 ∷ 3 ∷ [])
+    ∷ readHeader (2 ∷ 0 ∷ 1 ∷ [])
+    ∷ readHeader (3 ∷ 100 ∷ 1 ∷ [])
+    ∷ readHeader (4 ∷ 100 ∷ 2 ∷ 44 ∷ 7 ∷ [])
     ∷ []
-    ≡ unread 1 ∷ unread 3 ∷ unread 3 ∷ unread 4 ∷ unread 5 ∷ []
+    ≡ header.Leads (headerOf 1 60000 0 65535 7)
+    ∷ header.Leads (headerOf 2 0 0 1 3)
+    ∷ header.Leads (headerOf 3 100 0 1 3)
+    ∷ header.Leads (headerOf 4 100 44 7 5)
+    ∷ []
+unfolding readHeader readDated readNamed readCountry isCountryCode readRanged readNumber digits isCode country
+headers = refl
+
+-- no bytes, and a kind in two bytes that is not shortest; kinds 0 and 5; received on day 60,001; no lines, and 65,536; a
+-- replacement's digit count of 0 and of 16, a value above its digits, 044 and 441, which are no country codes
+headers-refused :
+    readHeader []
+    ∷ readHeader (0x83 ∷ 0 ∷ [])
+    ∷ readHeader (0 ∷ [])
+    ∷ readHeader (5 ∷ [])
+    ∷ readHeader (3 ∷ 225 ∷ 212 ∷ 3 ∷ 1 ∷ [])
+    ∷ readHeader (3 ∷ 100 ∷ 0 ∷ [])
+    ∷ readHeader (3 ∷ 100 ∷ 128 ∷ 128 ∷ 4 ∷ [])
+    ∷ readHeader (4 ∷ 100 ∷ 0 ∷ [])
+    ∷ readHeader (4 ∷ 100 ∷ 16 ∷ [])
+    ∷ readHeader (4 ∷ 100 ∷ 1 ∷ 44 ∷ [])
+    ∷ readHeader (4 ∷ 100 ∷ 3 ∷ 44 ∷ [])
+    ∷ readHeader (4 ∷ 100 ∷ 3 ∷ 185 ∷ 3 ∷ [])
+    ∷ []
+    ≡ header.Refused 1
+    ∷ header.Refused 2
+    ∷ header.Refused 3
+    ∷ header.Refused 3
+    ∷ header.Refused 4
+    ∷ header.Refused 4
+    ∷ header.Refused 4
+    ∷ header.Refused 4
+    ∷ header.Refused 4
+    ∷ header.Refused 4
+    ∷ header.Refused 5
+    ∷ header.Refused 5
+    ∷ []
+unfolding readHeader readDated readNamed readCountry isCountryCode readRanged readNumber digits isCode country
+headers-refused = refl
+
+-- fewer lines than told, and a byte after the last; in a replacement of 1, a line outside it and lines of two days
+damaged :
+    readNotice (3 ∷ 100 ∷ 2 ∷ 1 ∷ 1 ∷ 0 ∷ 0 ∷ [])
+    ∷ readNotice (3 ∷ 100 ∷ 1 ∷ 1 ∷ 1 ∷ 0 ∷ 0 ∷ 0 ∷ [])
+    ∷ readNotice (4 ∷ 100 ∷ 1 ∷ 1 ∷ 1 ∷ 1 ∷ 7 ∷ 0 ∷ 0 ∷ [])
+    ∷ readNotice (4 ∷ 100 ∷ 1 ∷ 1 ∷ 2 ∷ 1 ∷ 1 ∷ 0 ∷ 0 ∷ 2 ∷ 12 ∷ 0 ∷ 1 ∷ [])
+    ∷ []
+    ≡ unread 1 ∷ unread 9 ∷ unread 7 ∷ unread 8 ∷ []
 unfolding readNotice readHeader readDated readNamed readCountry isCountryCode readLines readLine readCode codeField readTerms
     readRate readIncrements readListed listedField readRanged readNumber key digits isCode country priceOf
 damaged = refl

@@ -1,22 +1,43 @@
 // A notice's leading fields (document 01, "Notice layout"), read through a reader that gives its numbers one by one.
 ghost use mathlib.Core.Path.{_≡_};
-ghost use Rattle.notice.specs.NoticeRule.{readHeader};
+ghost use Prim.Native.Nat.{_≤_};
+ghost use Rattle.notice.specs.NoticeRule.{countryField, readHeader};
 ghost use Rattle.notice.specs.Leading.{countryBy, linesBy, datedBy, headerBy};
 use crate::Header;
 use crate::HeaderRead;
+use dial_code::Keyed;
 use rate::Day;
 use varint::Number;
 use varint::Reader;
+
+// A replacement country's value field: exactly a country code.
+fn country_field(count: u64, value: u64, end: usize) -> Number
+    requires { ⌜ (1 ≤ count) × (count ≤ 15) ⌝ }
+    ensures { λ r. ⌜ r ≡ countryField count value end ⌝ }
+{
+    match dial_code::code_key(count, value) {
+        Keyed::Refused(e) => Number::Refused(e),
+        Keyed::Key(key) => {
+            if !country_code::is_code_key(key) {
+                return Number::Refused(refusal::CODE_NOT_ALLOWED);
+            }
+            if notice_line::lies_in(key, value) {
+                return Number::Value(value, end);
+            }
+            Number::Refused(refusal::CODE_NOT_ALLOWED)
+        }
+    }
+}
 
 // A replacement's country, by its digit count and its value.
 fn country_by(count: Number, value: Number) -> Number
     ensures { λ r. ⌜ r ≡ countryBy count value ⌝ }
 {
-    match crate::in_range(count, 1, dial_code::MOST_DIGITS) {
+    match varint::in_range(count, 1, dial_code::MOST_DIGITS) {
         Number::Refused(e) => Number::Refused(e),
         Number::Value(digits, _) => match value {
             Number::Refused(e) => Number::Refused(e),
-            Number::Value(country, end) => crate::country_field(digits, country, end),
+            Number::Value(country, end) => country_field(digits, country, end),
         },
     }
 }
@@ -25,7 +46,7 @@ fn country_by(count: Number, value: Number) -> Number
 fn lines_by(kind: u64, received: u64, country: u64, count: Number) -> HeaderRead
     ensures { λ r. ⌜ r ≡ linesBy kind received country count ⌝ }
 {
-    match crate::in_range(count, 1, crate::MOST_LINES) {
+    match varint::in_range(count, 1, crate::MOST_LINES) {
         Number::Refused(e) => HeaderRead::Refused(e),
         Number::Value(lines, start) => HeaderRead::Leads(Header {
             kind,
@@ -41,7 +62,7 @@ fn lines_by(kind: u64, received: u64, country: u64, count: Number) -> HeaderRead
 fn dated_by(kind: u64, received: Number, third: Number, fourth: Number, fifth: Number) -> HeaderRead
     ensures { λ r. ⌜ r ≡ datedBy kind received third fourth fifth ⌝ }
 {
-    match crate::in_range(received, 0, Day::LAST_RECEIVED.0) {
+    match varint::in_range(received, 0, Day::LAST_RECEIVED.0) {
         Number::Refused(e) => HeaderRead::Refused(e),
         Number::Value(day, _) => {
             if kind == crate::REPLACEMENT {
@@ -68,7 +89,7 @@ fn header_by(
     match kind {
         Number::Refused(e) => HeaderRead::Refused(e),
         Number::Value(known, _) => {
-            if known < 1 {
+            if known < crate::FULL {
                 return HeaderRead::Refused(refusal::UNKNOWN_KIND);
             }
             if crate::REPLACEMENT < known {

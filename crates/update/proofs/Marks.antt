@@ -19,7 +19,7 @@ use Rattle.dial_code.proofs.Tests.{both, and-left-true}
 use Rattle.dial_code.proofs.DigitLaws.{value-below}
 use Rattle.lookup.proofs.Matching.{word-digits}
 use Rattle.notice.specs.NoticeRule.{Notice, full, partial, replacement}
-use Rattle.notice.specs.declared.Line.{Line}
+use Rattle.notice_line.specs.declared.Line.{Line}
 use Rattle.notice.specs.declared.Summary.{Summary}
 use Rattle.history.specs.Effect.{sameCountry, namedBy, inCountry, closes}
 use Rattle.effect.specs.Closings.{isMarked, closesIn, closesBy}

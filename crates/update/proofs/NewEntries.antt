@@ -16,7 +16,7 @@ use Rattle.rate.specs.declared.Offer.{Offer}
 use Rattle.rate.specs.declared.Offer.the-variants.{Closed}
 use Rattle.rate.proofs.Words.{closed-word}
 use Rattle.notice.specs.NoticeRule.{Notice}
-use Rattle.notice.specs.declared.Line.{Line}
+use Rattle.notice_line.specs.declared.Line.{Line}
 use Rattle.notice.specs.declared.Summary.{Summary}
 use Rattle.notice.proofs.Checking as checking
 use Rattle.notice.proofs.LinesLaws.{ValidFrom}

@@ -22,8 +22,8 @@ use effect::Plan;
 use history::Applied;
 use merge::Merged;
 use notice::Checked;
-use notice::LineRead;
 use notice::Summary;
+use notice_line::LineRead;
 
 // Applies a notice to an old book and writes the new one: 20 and 21 for the old book, 20 for the new, the notice's own refusals,
 // 10, 30. A refused apply changes no word.
@@ -127,7 +127,7 @@ fn mark_lines(notice: &[u8], start: usize, lines: u64, marks: &mut [u8; 1000])
     let mut at = start;
     let mut left = lines;
     while 0 < left {
-        match notice::line_at(notice, at) {
+        match notice_line::line_at(notice, at) {
             LineRead::Refused(_) => {
                 return;
             }

@@ -1,5 +1,4 @@
--- The rules of numbers in groups of seven bits, and of a reader that gives them one by one.
+-- The rules of reading numbers in groups of seven bits, and of a reader that gives them one by one.
 pub mod Reading
-pub mod Writing
-pub mod Several
+pub mod Ranged
 pub mod Standing

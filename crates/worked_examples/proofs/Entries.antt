@@ -15,12 +15,12 @@ use Rattle.rate.specs.Price.{rate, priceOf}
 use Rattle.rate.specs.OfferWord.{wordOf, offerOf}
 use Rattle.rate.specs.declared.Offer.{Offer}
 use Rattle.rate.specs.declared.Offer.the-variants.{Closed, Open}
-use Rattle.notice.specs.Field.{readRanged}
-use Rattle.notice.specs.LineRule.{lineOf, codeField, readCode, readIncrements, readRate, readTerms, listedField, readListed}
-use Rattle.notice.specs.LineRule.{readLine}
+use Rattle.varint.specs.Ranged.{readRanged}
+use Rattle.notice_line.specs.LineRule.{lineOf, codeField, readCode, readIncrements, readRate, readTerms, listedField, readListed}
+use Rattle.notice_line.specs.LineRule.{readLine}
 use Rattle.notice.specs.NoticeRule.{Notice, notice, isCountryCode, readCountry, readNamed, readDated, readHeader}
 use Rattle.notice.specs.NoticeRule.{readLines, readNotice}
-use Rattle.notice.specs.declared.Line.{Line}
+use Rattle.notice_line.specs.declared.Line.{Line}
 use Rattle.book.specs.Layout.{entry}
 use Rattle.book.specs.Soundness.{soundEntries}
 use Rattle.book.specs.Status.{statusIn}

@@ -19,12 +19,12 @@ use Rattle.rate.specs.declared.Priced.{Priced}
 use Rattle.rate.specs.declared.Priced.the-variants as priced
 use Rattle.rate.specs.declared.Charged.{Charged}
 use Rattle.rate.specs.declared.Charged.the-variants as charged
-use Rattle.notice.specs.Field.{readRanged}
-use Rattle.notice.specs.LineRule.{lineOf, codeField, readCode, readIncrements, readRate, readTerms, listedField, readListed}
-use Rattle.notice.specs.LineRule.{readLine}
+use Rattle.varint.specs.Ranged.{readRanged}
+use Rattle.notice_line.specs.LineRule.{lineOf, codeField, readCode, readIncrements, readRate, readTerms, listedField, readListed}
+use Rattle.notice_line.specs.LineRule.{readLine}
 use Rattle.notice.specs.NoticeRule.{Reading, notice, isCountryCode, readCountry, readNamed, readDated, readHeader}
 use Rattle.notice.specs.NoticeRule.{readLines, readNotice}
-use Rattle.notice.specs.declared.Line.{Line}
+use Rattle.notice_line.specs.declared.Line.{Line}
 use Rattle.book.specs.Layout.{entry}
 use Rattle.lookup.specs.Match.{answer, matched}
 use Rattle.lookup.specs.declared.Answer.{Answer}

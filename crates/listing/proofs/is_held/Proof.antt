@@ -8,7 +8,7 @@ use lib.Dec.{leb}
 use lib.ListN.{length}
 use Rattle.listing.proofs.is_held.Statement.{statement}
 use Rattle.listing.proofs.is_held.Tie as tie
-use Rattle.notice.specs.Layout.{encodeLines}
+use Rattle.notice_writing.specs.Layout.{encodeLines}
 use Rattle.book.specs.Layout.{mostEntries, entriesOf}
 use Rattle.listing.specs.List.{standingLines, listOf}
 use Rattle.listing.proofs.Sizes.{mostLine}

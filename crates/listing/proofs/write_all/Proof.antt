@@ -11,7 +11,7 @@ use Rattle.listing.proofs.Answering.{header-written, lines-fit, all-wri
 use Rattle.book.specs.Layout.{entriesOf}
 use Rattle.listing.specs.List.{standingLines}
 use lib.Seq.{sets}
-use Rattle.varint.specs.declared.Written.the-variants.{UpTo}
+use Rattle.varint_writing.specs.declared.Written.the-variants.{UpTo}
 use Rattle.listing.proofs.Answering.{header}
 
 -- the bytes before the lines are written

@@ -8,8 +8,8 @@ use Rattle.listing.proofs.Turns.{writes-none, line-written, up-to, some
 use lib.Seq.{sets}
 use Prim.Native.Nat.{_+_}
 use lib.ListN.{length}
-use Rattle.varint.specs.declared.Written.the-variants.{UpTo}
-use Rattle.notice.specs.Layout.{encodeLines}
+use Rattle.varint_writing.specs.declared.Written.the-variants.{UpTo}
+use Rattle.notice_writing.specs.Layout.{encodeLines}
 use Rattle.book.specs.Layout.{entriesFrom}
 use Rattle.listing.specs.Pass.{addedBy}
 use mathlib.Core.Path.{_≡_}

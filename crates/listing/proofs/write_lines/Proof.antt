@@ -8,15 +8,15 @@ use borrow.Author.Needs.{needs}
 use lib.ListN.{length}
 use Rattle.listing.proofs.write_lines.Statement.{statement}
 use Rattle.listing.proofs.write_lines.Tie as tie
-use Rattle.notice.specs.Layout.{encodeLines}
+use Rattle.notice_writing.specs.Layout.{encodeLines}
 use Rattle.book.specs.Layout.{mostWords, entryWords, entriesFrom, entriesOf}
 use Rattle.book.proofs.Headers.{sound-book, sound-count}
 use Rattle.listing.specs.List.{standingLines}
 use Rattle.listing.proofs.Passing.{passed}
 use Rattle.listing.proofs.Turns.{length-row, puts, none-left, whole}
 use lib.Seq.{sets}
-use Rattle.notice.specs.declared.Line.{Line}
-use Rattle.notice.proofs.LayoutLaws.{lines-nil}
+use Rattle.notice_line.specs.declared.Line.{Line}
+use Rattle.notice_writing.proofs.LayoutLaws.{lines-nil}
 
 abbrev Inv-loop : tie.InvT-loop
 Inv-loop words day out₀ from end₀ at₀ left₀ out end at left =

@@ -9,10 +9,10 @@ use Rattle.notice.proofs.check_notice.Statement.{statement}
 use Rattle.notice.proofs.check_notice.Tie as tie
 
 h-read : (c : tie.After-h) → readHeader (c .before .before .before .before .args .notice .now) ≡ header.Leads (c .h .given .0 .0)
-h-read c = sym (c .before .before .read-header .ensures) ∙ c .h .given .1
+h-read c = sym (c .before .before .leading-fields .ensures) ∙ c .h .given .1
 
-read-header-requires : tie.Need-read-header-requires
-read-header-requires c κs = search needs
+leading-fields-requires : tie.Need-leading-fields-requires
+leading-fields-requires c κs = search needs
 
 enum-known-e : tie.Need-enum-known-e
 enum-known-e c = search needs
@@ -30,7 +30,7 @@ enum-known-earliest : tie.Need-enum-known-earliest
 enum-known-earliest c = search needs
 
 returns : tie.Need-returns
-returns c = sym (check-header _ _ (sym (c .before .before .before .read-header .ensures) ∙ c .before .e .given .1))
+returns c = sym (check-header _ _ (sym (c .before .before .before .leading-fields .ensures) ∙ c .before .e .given .1))
 
 returns-2 : tie.Need-returns-2
 returns-2 c =
@@ -48,7 +48,7 @@ pub check-notice-spec : {M : Type 1} → statement M
 check-notice-spec =
     tie.close
     (tie.spec
-    read-header-requires
+    leading-fields-requires
     enum-known-e
     enum-known-h
     scan-lines-requires

@@ -6,10 +6,10 @@ use native.Mathlib.Omega.{arith}
 use borrow.Author.Needs.{needs}
 use lib.ListN.{length, drop, take}
 use Rattle.notice.proofs.Scanning.{scannedFrom, starts, passes, stops, over, more}
-use Rattle.notice.proofs.LinesLaws.{within}
-use Rattle.notice.specs.LineRule.{readLine}
+use Rattle.notice_line.proofs.LineAt.{within}
+use Rattle.notice_line.specs.LineRule.{readLine}
 use Rattle.notice.specs.NoticeRule.{readLines, scanned}
-use Rattle.notice.specs.declared.LineRead.the-variants as line
+use Rattle.notice_line.specs.declared.LineRead.the-variants as line
 use Rattle.notice.proofs.scan_lines.Statement.{statement}
 use Rattle.notice.proofs.scan_lines.Tie as tie
 

@@ -2,9 +2,9 @@
 use mathlib.Core.Path.{_≡_, sym, _∙_}
 use borrow.Author.Needs.{needs}
 use borrow.Author.Tests.{eq-eqb, ne-eqb}
-use Rattle.notice.proofs.Links.{on-value, on-refused, yes-case, no-case}
+use Rattle.varint.proofs.Links.{on-value, on-refused, yes-case, no-case}
 use Rattle.varint.specs.declared.Number.the-variants.{Value}
-use Rattle.notice.specs.Field.{inRange}
+use Rattle.varint.specs.Ranged.{inRange}
 use Rattle.notice.specs.Leading.{datedBy}
 use Rattle.notice.proofs.leading.dated_by.Statement.{statement}
 use Rattle.notice.proofs.leading.dated_by.Tie as tie

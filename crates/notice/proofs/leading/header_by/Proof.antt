@@ -2,7 +2,7 @@
 use mathlib.Core.Path.{sym, _∙_}
 use borrow.Author.Needs.{needs}
 use borrow.Author.Tests.{le-leb, lt-leb}
-use Rattle.notice.proofs.Links.{on-value, on-refused, yes-case, no-case}
+use Rattle.varint.proofs.Links.{on-value, on-refused, yes-case, no-case}
 use Rattle.dial_code.proofs.Tests.{and-left-true, and-left-false}
 use Rattle.notice.specs.Leading.{headerBy}
 use Rattle.notice.proofs.leading.header_by.Statement.{statement}

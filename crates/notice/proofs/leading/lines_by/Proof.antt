@@ -1,7 +1,7 @@
 -- `notice::leading::lines_by` meets its contract. Assumes nothing.
 use mathlib.Core.Path.{sym, _∙_}
 use borrow.Author.Needs.{needs}
-use Rattle.notice.proofs.Links.{on-value, on-refused}
+use Rattle.varint.proofs.Links.{on-value, on-refused}
 use Rattle.notice.proofs.leading.lines_by.Statement.{statement}
 use Rattle.notice.proofs.leading.lines_by.Tie as tie
 

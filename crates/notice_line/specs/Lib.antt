@@ -1,0 +1,2 @@
+-- The rule of one line of a notice.
+pub mod LineRule

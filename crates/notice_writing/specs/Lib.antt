@@ -1,0 +1,2 @@
+-- The rules of writing a notice.
+pub mod Layout

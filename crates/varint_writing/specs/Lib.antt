@@ -1,0 +1,3 @@
+-- The rules of writing numbers in groups of seven bits.
+pub mod Writing
+pub mod Several
