@@ -11,12 +11,13 @@ use lib.Dec.{leb, ltb}
 use lib.ListN.{length, replicate, drop-of-length-le, length-replicate}
 use lib.Seq.{sets, sets-eq}
 use Rattle.refusal.specs.Refusal.{periodTooLong, bookTooShort}
-use Rattle.book.specs.Layout.{headerWords, mostPeriod, header, wordsOfHeader, entriesOf}
+use Rattle.book_words.specs.Layout.{headerWords, mostPeriod, header, wordsOfHeader, entriesOf}
 use Rattle.book.specs.Soundness.{sound}
 use Rattle.book.specs.Answers.{freshRefusal, freshBook, freshWords}
 use Rattle.book.proofs.Rules.{no-entries}
-use Rattle.book.proofs.Places.{drop-replicate}
-use Rattle.book.proofs.BookWords.{entries-back, sound-back}
+use Rattle.book_words.proofs.Places.{drop-replicate}
+use Rattle.book_words.proofs.BookWords.{entries-back}
+use Rattle.book.proofs.SoundBooks.{sound-back}
 
 -- The refusal by the tests of the code.
 module _ (len period : ℕ) where

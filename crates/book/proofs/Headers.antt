@@ -9,19 +9,11 @@ use lib.Dec.{leb}
 use lib.ListN.{length, drop}
 use Rattle.dial_code.proofs.Tests.{both, and-right-false}
 use Rattle.rate.specs.Time.{lastDay, lastReceivedDay}
-use Rattle.book.specs.Layout.{headerWords, entryWords, mostPeriod}
-use Rattle.book.specs.Layout.{mostEntries, countOf, periodOf, receivedOf, latestOf, held, entriesOf}
+use Rattle.book_words.specs.Layout.{headerWords, entryWords, mostPeriod}
+use Rattle.book_words.specs.Layout.{mostEntries, countOf, periodOf, receivedOf, latestOf, held, entriesOf}
 use Rattle.book.specs.Soundness.{soundEntries, allZero, soundHeader, headedCount, sound}
+use Rattle.book_words.proofs.BookWords.{held-fits}
 use Rattle.book.proofs.Rules.{header-test, sound-test, by-latest, by-rest}
-
--- So many entries are held where there are at most the most entries, and words for all of them.
-pub held-fits : (n len : ℕ) → headerWords ≤ len → n ≤ held len → (n ≤ mostEntries) × (headerWords + n * entryWords ≤ len)
-unfolding held
-held-fits n len h e = (omega arith, omega arith)
-
-pub fits-held : (n len : ℕ) → headerWords ≤ len → n ≤ mostEntries → headerWords + n * entryWords ≤ len → n ≤ held len
-unfolding held
-fits-held n len h m e = omega arith
 
 -- A sound header: the count within the entries held, so that there are words for as many entries, and the ranges.
 pub record Headed (ws : List ℕ) : Type 0 where

@@ -10,11 +10,11 @@ use lib.ListN.{length, drop}
 use Rattle.country_code.specs.Code.{isCodeKey}
 use Rattle.dial_code.proofs.Tests.{and-left-false, and-left-true, and-right-false, and-right-true}
 use Rattle.rate.specs.Time.{lastReceivedDay, lastDay}
-use Rattle.book.specs.Layout.{headerWords, entryWords, mostPeriod}
-use Rattle.book.specs.Layout.{countOf, periodOf, receivedOf, latestOf, entriesOf, held}
+use Rattle.book_words.specs.Layout.{headerWords, entryWords, mostPeriod}
+use Rattle.book_words.specs.Layout.{countOf, periodOf, receivedOf, latestOf, entriesOf, held}
 use Rattle.book.specs.Soundness.{isOfferWord, inRange, begins, follows, soundAfter, soundEntries}
 use Rattle.book.specs.Soundness.{allZero, soundHeader, sound}
-use Rattle.book.specs.declared.Entry.{Entry}
+use Rattle.book_words.specs.declared.Entry.{Entry}
 
 -- An entry by itself, as the first of a code, and after another.
 pub range-test : (e : Entry) → inRange e ≡ (leb (e .day) lastDay && isOfferWord (e .offer))

@@ -11,12 +11,12 @@ use lib.ListN.{length}
 use Rattle.country_code.specs.Code.{isCodeKey}
 use Rattle.dial_code.proofs.Tests.{both, and-left-true, Order, below, equal, above, order}
 use Rattle.rate.specs.Time.{lastDay}
-use Rattle.book.specs.Layout.{entriesOf}
+use Rattle.book_words.specs.Layout.{entriesOf}
 use Rattle.book.specs.Soundness.{isOfferWord, inRange, begins, follows, soundAfter, soundEntries, sound}
-use Rattle.book.specs.declared.Entry.{Entry}
+use Rattle.book_words.specs.declared.Entry.{Entry}
 use Rattle.book.proofs.Rules.{range-test, begins-test, follows-test, none-after, one-after, no-entries, some-entries}
 use Rattle.book.proofs.Rules.{by-word, by-key, changed, larger-key}
-use Rattle.book.proofs.Rows.{entryIn}
+use Rattle.book_words.proofs.Rows.{entryIn}
 use Rattle.book.proofs.Headers.{sound-book}
 
 -- What every entry of a sound list is: the key of an allowed code, a day and an offer word in range.

@@ -16,8 +16,8 @@ use Rattle.rate.specs.declared.Stored.the-variants.{Holds, Invalid}
 use Rattle.rate.proofs.Words.{only-word}
 use Rattle.book.specs.Soundness.{isHeld, isOfferWord}
 use Rattle.book.specs.Status.{statusFrom, statusIn, heldOffer, offerIn}
-use Rattle.book.specs.declared.Entry.{Entry}
-use Rattle.book.proofs.Rows.{entryIn}
+use Rattle.book_words.specs.declared.Entry.{Entry}
+use Rattle.book_words.proofs.Rows.{entryIn}
 use Rattle.book.proofs.SoundLists.{After, same, next, SoundFrom, Sound, each-allowed, keys-rise}
 
 -- A code and a day, x and d, that stand before a key and a day, k and n.

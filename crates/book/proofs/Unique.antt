@@ -7,14 +7,14 @@ use Prim.Native.Nat.{ℕ, suc, _≤_, _<_}
 use native.Mathlib.Omega.{arith}
 use lib.ListN.{length}
 use Rattle.dial_code.proofs.Tests.{below, equal, above, order}
-use Rattle.book.specs.Layout.{periodOf, receivedOf, latestOf, entry, entriesOf, bookOf}
+use Rattle.book_words.specs.Layout.{periodOf, receivedOf, latestOf, entry, entriesOf, bookOf}
 use Rattle.book.specs.Soundness.{sound}
 use Rattle.book.specs.Status.{statusFrom, statusIn}
-use Rattle.book.specs.declared.Entry.{Entry}
+use Rattle.book_words.specs.declared.Entry.{Entry}
 use Rattle.book.proofs.SoundLists.{After, same, next, SoundFrom, Sound, after-key, entries-sound}
 use Rattle.book.proofs.Statuses.{Before, smaller, earlier, before-on}
 use Rattle.book.proofs.Statuses.{gives, other-key, stands-later, untouched, starts-closed}
-use Rattle.book.proofs.BookWords.{book-back}
+use Rattle.book.proofs.SoundBooks.{book-back}
 
 -- Two lists agree after a state: on its key from its day on, with its status so far, and on every larger key.
 record Agree (k n o : ℕ) (es fs : List Entry) : Type 0 where

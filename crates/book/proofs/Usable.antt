@@ -8,7 +8,7 @@ use borrow.Author.Tests.{lt-ltb, le-ltb}
 use lib.Dec.{ltb}
 use lib.ListN.{length}
 use Rattle.refusal.specs.Refusal.{bookTooShort, bookNotSound}
-use Rattle.book.specs.Layout.{headerWords}
+use Rattle.book_words.specs.Layout.{headerWords}
 use Rattle.book.specs.Soundness.{sound}
 use Rattle.book.specs.Answers.{bookRefusal}
 

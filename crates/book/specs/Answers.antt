@@ -6,7 +6,7 @@ use Prim.Native.Nat.{ℕ}
 use lib.Dec.{eqb, leb, ltb}
 use lib.ListN.{length}
 use Rattle.refusal.specs.Refusal.{bookTooShort, bookNotSound, periodTooLong}
-use Rattle.book.specs.Layout.{headerWords, mostPeriod, bookOf}
+use Rattle.book_words.specs.Layout.{headerWords, mostPeriod, bookOf}
 use Rattle.book.specs.Soundness.{sound}
 
 -- A fresh book: 22, then 20; a book of no entries.

@@ -1,5 +1,4 @@
--- The rules of the book: its words, soundness, statuses, and what keeps it from being used.
-pub mod Layout
+-- The rules of the book: soundness, statuses, and what keeps it from being used.
 pub mod Soundness
 pub mod Status
 pub mod Answers

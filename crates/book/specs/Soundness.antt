@@ -13,8 +13,8 @@ use Rattle.rate.specs.Time.{lastDay, lastReceivedDay}
 use Rattle.rate.specs.OfferWord.{offerOf}
 use Rattle.rate.specs.declared.Stored.{Stored}
 use Rattle.rate.specs.declared.Stored.the-variants.{Holds, Invalid}
-use Rattle.book.specs.Layout.{headerWords, entryWords, mostPeriod, countOf, periodOf, receivedOf, latestOf, held, entriesOf}
-use Rattle.book.specs.declared.Entry.{Entry}
+use Rattle.book_words.specs.Layout.{headerWords, entryWords, mostPeriod, countOf, periodOf, receivedOf, latestOf, held, entriesOf}
+use Rattle.book_words.specs.declared.Entry.{Entry}
 
 abbrev pub isHeld : Stored → Bool
 isHeld (Holds o) = true

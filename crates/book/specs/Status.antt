@@ -10,8 +10,8 @@ use Rattle.rate.specs.declared.Offer.{Offer}
 use Rattle.rate.specs.declared.Offer.the-variants.{Closed}
 use Rattle.rate.specs.declared.Stored.{Stored}
 use Rattle.rate.specs.declared.Stored.the-variants.{Holds, Invalid}
-use Rattle.book.specs.Layout.{entry}
-use Rattle.book.specs.declared.Entry.{Entry}
+use Rattle.book_words.specs.Layout.{entry}
+use Rattle.book_words.specs.declared.Entry.{Entry}
 
 -- The offer word of a code on a day: that of the last of its entries not after the day, and `so far` where there is none.
 unfoldable pub statusFrom : ℕ → List Entry → ℕ → ℕ → ℕ

@@ -7,43 +7,15 @@ ghost use mathlib.Core.Bool.{true};
 ghost use lib.Dec.{eqb};
 ghost use lib.ListN.{length, drop};
 ghost use Rattle.country_code.specs.Code.{isCodeKey};
-ghost use Rattle.book.specs.Layout.{headerWords, entryWords, countOf, entriesFrom};
+ghost use Rattle.book_words.specs.Layout.{headerWords, mostEntries, countOf, entriesFrom};
 ghost use Rattle.book.specs.Soundness.{isOfferWord, inRange, begins, follows, soundEntries, allZero, soundHeader, headedCount, sound};
 ghost use Rattle.book.specs.Answers.{freshRefusal, freshWords, bookRefusal};
-
-mod words;
-
+use book_words::Entry;
+use book_words::Header;
 use rate::Day;
 use rate::Stored;
-pub use words::clear;
-pub use words::entries_held;
-pub use words::entry_at;
-pub use words::header_of;
-pub use words::write_entry;
-pub use words::write_header;
-
-pub const HEADER_WORDS: usize = 4;
-
-pub const ENTRY_WORDS: usize = 3;
-
-pub const MOST_ENTRIES: usize = 65_535;
 
 const MOST_PERIOD: u64 = 365;
-
-// The words before the entries: how many entries there are, the notice period, the last received day and the latest effective day.
-pub struct Header {
-    pub count: u64,
-    pub period: u64,
-    pub received: u64,
-    pub latest: u64,
-}
-
-// An entry of a book: a code's key, a day, and the offer word of the code from that day on.
-pub struct Entry {
-    pub key: u64,
-    pub day: u64,
-    pub offer: u64,
-}
 
 fn is_offer_word(word: u64) -> bool
     ensures { λ r. ⌜ r ≡ isOfferWord word ⌝ }
@@ -109,25 +81,25 @@ fn can_follow(e: Entry, f: Entry) -> bool
 
 // Whether the first entries are sound, each read once and held against the one before it.
 fn are_sound(words: &[u64], count: usize) -> bool
-    requires { ⌜ headerWords + count * entryWords ≤ length (now words) ⌝ }
+    requires { ⌜ count ≤ mostEntries ⌝ }
     ensures { λ r. ⌜ r ≡ soundEntries (entriesFrom (now (words .entry)) headerWords count) ⌝ }
 {
     if count == 0 {
         return true;
     }
-    let mut before = words::entry_in(words, HEADER_WORDS);
+    let mut before = book_words::entry_at(words, book_words::HEADER_WORDS as u32);
     if !can_begin(before) {
         return false;
     }
-    let mut at = HEADER_WORDS + ENTRY_WORDS;
+    let mut at = (book_words::HEADER_WORDS + book_words::ENTRY_WORDS) as u32;
     let mut left = count - 1;
     while 0 < left {
-        let e = words::entry_in(words, at);
+        let e = book_words::entry_at(words, at);
         if !can_follow(before, e) {
             return false;
         }
         before = e;
-        at += ENTRY_WORDS;
+        at += book_words::ENTRY_WORDS as u32;
         left -= 1;
     }
     true
@@ -151,8 +123,8 @@ fn is_clear(words: &[u64], from: usize) -> bool
 fn is_headed(words: &[u64]) -> bool
     ensures { λ r. ⌜ r ≡ soundHeader (now (words .entry)) ⌝ }
 {
-    let h = header_of(words);
-    if (entries_held(words.len()) as u64) < h.count {
+    let h = book_words::header_of(words);
+    if (book_words::entries_held(words.len()) as u64) < h.count {
         return false;
     }
     if MOST_PERIOD < h.period {
@@ -167,7 +139,7 @@ fn is_headed(words: &[u64]) -> bool
 fn counted(words: &[u64]) -> u64
     ensures { λ r. ⌜ r ≡ countOf (now (words .entry)) ⌝ }
 {
-    let h = header_of(words);
+    let h = book_words::header_of(words);
     h.count
 }
 
@@ -175,7 +147,7 @@ fn counted(words: &[u64]) -> u64
 pub fn headed_count(words: &[u64]) -> usize
     ensures { λ r. ⌜ r ≡ headedCount (now (words .entry)) ⌝ }
 {
-    if words.len() < HEADER_WORDS {
+    if words.len() < book_words::HEADER_WORDS {
         return 0;
     }
     if !is_headed(words) {
@@ -188,7 +160,7 @@ pub fn headed_count(words: &[u64]) -> usize
 fn is_sound(words: &[u64]) -> bool
     ensures { λ r. ⌜ r ≡ sound (now (words .entry)) ⌝ }
 {
-    if words.len() < HEADER_WORDS {
+    if words.len() < book_words::HEADER_WORDS {
         return false;
     }
     if !is_headed(words) {
@@ -198,14 +170,17 @@ fn is_sound(words: &[u64]) -> bool
     if !are_sound(words, count) {
         return false;
     }
-    is_clear(words, HEADER_WORDS + count * ENTRY_WORDS)
+    is_clear(
+        words,
+        book_words::HEADER_WORDS + count * book_words::ENTRY_WORDS,
+    )
 }
 
 // What keeps a book from being used: 20, 21, or 0.
 pub fn book_refusal(words: &[u64]) -> u64
     ensures { λ r. ⌜ r ≡ bookRefusal (now (words .entry)) ⌝ }
 {
-    if words.len() < HEADER_WORDS {
+    if words.len() < book_words::HEADER_WORDS {
         return refusal::BOOK_TOO_SHORT;
     }
     if is_sound(words) {
@@ -222,16 +197,16 @@ pub fn fresh(words: &mut [u64], period: u64) -> u64
     if MOST_PERIOD < period {
         return refusal::PERIOD_TOO_LONG;
     }
-    if words.len() < HEADER_WORDS {
+    if words.len() < book_words::HEADER_WORDS {
         return refusal::BOOK_TOO_SHORT;
     }
-    clear(words, 0);
+    book_words::clear(words, 0);
     let header = Header {
         count: 0,
         period,
         received: 0,
         latest: 0,
     };
-    write_header(words, header);
+    book_words::write_header(words, header);
     0
 }

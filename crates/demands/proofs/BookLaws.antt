@@ -7,7 +7,7 @@ use Prim.Native.Nat.{ℕ}
 use lib.ListN.{length}
 use Rattle.dial_code.specs.Key.{key, digitsOfKey}
 use Rattle.rate.specs.declared.Offer.{Offer}
-use Rattle.book.specs.Layout.{periodOf, receivedOf, latestOf, entriesOf}
+use Rattle.book_words.specs.Layout.{periodOf, receivedOf, latestOf, entriesOf}
 use Rattle.book.specs.Soundness.{sound}
 use Rattle.book.specs.Status.{statusIn, offerIn}
 use Rattle.lookup.specs.Match.{matched}

@@ -15,7 +15,7 @@ use Rattle.rate.specs.Time.{isDay}
 use Rattle.rate.specs.declared.Day.{Day}
 use Rattle.notice.specs.NoticeRule.{Notice, notice, readNotice, full}
 use Rattle.notice_line.specs.declared.Line.{Line}
-use Rattle.book.specs.Layout.{periodOf, receivedOf, held, entriesOf}
+use Rattle.book_words.specs.Layout.{periodOf, receivedOf, held, entriesOf}
 use Rattle.book.specs.Soundness.{sound}
 use Rattle.book.specs.Answers.{freshRefusal, freshBook}
 use Rattle.lookup.specs.Lookup.{lookup}

@@ -23,7 +23,7 @@ use Rattle.dial_code.specs.Digits.{isWritten, isDialled}
 use Rattle.rate.specs.Time.{lastReceivedDay, isDay, isReceivedDay}
 use Rattle.rate.specs.declared.Day.{Day}
 use Rattle.rate.specs.declared.Offer.the-variants.{Closed}
-use Rattle.book.specs.Layout.{headerWords, held, entriesOf}
+use Rattle.book_words.specs.Layout.{headerWords, held, entriesOf}
 use Rattle.book.specs.Soundness.{sound}
 use Rattle.lookup.specs.Match.{answer}
 use Rattle.book.specs.Answers.{freshRefusal, freshBook, bookRefusal}
@@ -31,9 +31,9 @@ use Rattle.lookup.specs.Lookup.{lookup}
 use Rattle.lookup.specs.declared.Lookup.the-variants.{Found}
 use Rattle.history.specs.Applying.{applyRefusal, applied}
 use Rattle.rating.specs.Call.{rateCall}
-use Rattle.rating.specs.Batch.{rowWords, dialledAs, rowOf, callWords, rowsOf}
-use Rattle.rating.specs.declared.CallRecord.{CallRecord}
-use Rattle.rating.proofs.BatchLaws as batches
+use Rattle.batch.specs.Batch.{rowWords, dialledAs, rowOf, callWords, rowsOf}
+use Rattle.batch.specs.declared.CallRecord.{CallRecord}
+use Rattle.batch.proofs.BatchLaws as batches
 use Rattle.listing.specs.List.{standingLines, standingNotice, listOf, listAnswer, listBytes}
 use Rattle.listing.proofs.Answering as answering
 use Rattle.listing.proofs.ReadsBack as lists

@@ -5,7 +5,7 @@ use Prim.Native.Nat.{ℕ, max}
 use Rattle.rate.specs.OfferWord.{wordOf}
 use Rattle.rate.specs.declared.Offer.{Offer}
 use Rattle.notice_line.specs.declared.Line.{Line}
-use Rattle.book.specs.Layout.{entry}
+use Rattle.book_words.specs.Layout.{entry}
 use Rattle.effect.specs.Lines.{raises, wantedBy, effectiveBy, changeBy}
 use Rattle.effect.specs.declared.Plan.{Plan}
 

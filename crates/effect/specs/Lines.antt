@@ -10,8 +10,8 @@ use Rattle.rate.specs.declared.Offer.{Offer}
 use Rattle.rate.specs.declared.Offer.the-variants.{Closed, Blocked, Open}
 use Rattle.notice_line.specs.LineRule.{lineOf, listedDay}
 use Rattle.notice_line.specs.declared.Line.{Line}
-use Rattle.book.specs.Layout.{entry}
-use Rattle.book.specs.declared.Entry.{Entry}
+use Rattle.book_words.specs.Layout.{entry}
+use Rattle.book_words.specs.declared.Entry.{Entry}
 use Rattle.lookup.specs.Search.{bestFound}
 use Rattle.history.specs.Effect.{above}
 use Rattle.effect.specs.declared.Plan.{Plan}

@@ -3,7 +3,7 @@ ghost use mathlib.Core.Path.{_≡_};
 ghost use Prim.Native.Nat.{max};
 ghost use Rattle.effect.specs.Lines.{foundIn, raises, effectiveBy, changeBy};
 ghost use Rattle.effect.specs.Closings.{isMarked, closesBy, closedAnyway, closedRange};
-use book::Entry;
+use book_words::Entry;
 use country_code::Country;
 use country_code::Stretch;
 use notice_line::Line;

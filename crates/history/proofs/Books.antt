@@ -11,10 +11,10 @@ use Rattle.rate.specs.declared.Stored.{Stored}
 use Rattle.rate.specs.declared.Stored.the-variants.{Holds, Invalid}
 use Rattle.rate.proofs.Words.{reads-back, only-word, closed-word}
 use Rattle.notice.specs.NoticeRule.{Notice}
-use Rattle.book.specs.Layout.{entriesOf, bookOf, periodOf}
+use Rattle.book_words.specs.Layout.{entriesOf, bookOf, periodOf}
 use Rattle.book.specs.Soundness.{isHeld, isOfferWord, soundEntries, sound}
 use Rattle.book.specs.Status.{statusIn, heldOffer, offerIn}
-use Rattle.book.specs.declared.Entry.{Entry}
+use Rattle.book_words.specs.declared.Entry.{Entry}
 use Rattle.book.proofs.Headers.{sound-book}
 use Rattle.book.proofs.SoundLists.{to-sound}
 use Rattle.book.proofs.Statuses.{no-code, stays, offer-word}

@@ -11,10 +11,10 @@ use Rattle.dial_code.specs.Key.{keysEnd}
 use Rattle.country_code.specs.Code.{isCodeKey}
 use Rattle.dial_code.proofs.Tests.{below, equal, above, order}
 use Rattle.country_code.proofs.CodeLaws.{beyond-keys}
-use Rattle.book.specs.Layout.{entry}
+use Rattle.book_words.specs.Layout.{entry}
 use Rattle.book.specs.Soundness.{isOfferWord, soundEntries}
 use Rattle.book.specs.Status.{statusFrom, statusIn}
-use Rattle.book.specs.declared.Entry.{Entry}
+use Rattle.book_words.specs.declared.Entry.{Entry}
 use Rattle.book.proofs.Statuses.{gives, other-key, later-day}
 use Rattle.book.proofs.SoundLists.{Allowed, After, same, next, SoundFrom, Sound, from-sound}
 use Rattle.history.specs.ChangeDays.{changesFrom, codeChanges, keyChanges, changeDays}

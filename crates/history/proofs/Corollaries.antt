@@ -20,11 +20,11 @@ use Rattle.rate.specs.declared.Day.{Day}
 use Rattle.notice.specs.NoticeRule.{Notice, notice, readNotice, full}
 use Rattle.notice_line.specs.declared.Line.{Line}
 use Rattle.notice.proofs.NoticeLaws.{notice-valid}
-use Rattle.book.specs.Layout.{periodOf, receivedOf, held, entriesOf}
+use Rattle.book_words.specs.Layout.{periodOf, receivedOf, held, entriesOf}
 use Rattle.book.specs.Soundness.{sound}
 use Rattle.book.specs.Answers.{freshRefusal, freshBook}
 use Rattle.lookup.specs.Lookup.{lookup}
-use Rattle.book.proofs.BookWords.{entries-back}
+use Rattle.book_words.proofs.BookWords.{entries-back}
 use Rattle.history.specs.Effect.{Known, namedBy, afterNotice}
 use Rattle.history.specs.ChangeDays.{changeDays}
 use Rattle.history.specs.Machine.{known, lastReceived, words}

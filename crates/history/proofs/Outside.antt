@@ -26,14 +26,15 @@ use Rattle.notice.specs.NoticeRule.{Notice, readNotice, full}
 use Rattle.notice_line.specs.declared.Line.{Line}
 use Rattle.notice.proofs.LinesLaws.{ValidFrom}
 use Rattle.notice.proofs.NoticeLaws.{Valid}
-use Rattle.book.specs.Layout.{headerWords, periodOf, held}
+use Rattle.book_words.specs.Layout.{headerWords, periodOf, held}
 use Rattle.book.specs.Soundness.{sound}
 use Rattle.lookup.specs.Match.{matched}
 use Rattle.book.specs.Answers.{bookRefusal}
 use Rattle.lookup.specs.Lookup.{lookup}
 use Rattle.lookup.specs.declared.Lookup.the-variants.{Found}
 use Rattle.book.proofs.Headers.{sound-book}
-use Rattle.book.proofs.BookWords.{entries-back, sound-back}
+use Rattle.book_words.proofs.BookWords.{entries-back}
+use Rattle.book.proofs.SoundBooks.{sound-back}
 use Rattle.lookup.proofs.Matching.{statusOn, matched-alike}
 use Rattle.book.proofs.Usable.{usable-book, usable-sound}
 use Rattle.lookup.proofs.Lookups.{no-number, no-day, answered}

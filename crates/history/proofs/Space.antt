@@ -11,7 +11,7 @@ use lib.ListN.{length}
 use Rattle.refusal.specs.Refusal.{bookFull}
 use Rattle.notice.specs.NoticeRule.{Notice, Reading, notice, unread, readNotice}
 use Rattle.notice.proofs.NoticeLaws.{notice-refusals}
-use Rattle.book.specs.Layout.{held}
+use Rattle.book_words.specs.Layout.{held}
 use Rattle.history.specs.ChangeDays.{changeDays}
 use Rattle.history.specs.Machine.{known, lastReceived, words, judged, readings, answers}
 

@@ -15,17 +15,18 @@ use Rattle.rate.specs.declared.Offer.the-variants.{Closed}
 use Rattle.rate.specs.Time.{isDay}
 use Rattle.rate.specs.declared.Day.{Day}
 use Rattle.notice.specs.NoticeRule.{Notice, Reading, notice, unread, readNotice}
-use Rattle.book.specs.Layout.{headerWords, held, entriesOf, bookOf, periodOf, receivedOf}
+use Rattle.book_words.specs.Layout.{headerWords, held, entriesOf, bookOf, periodOf, receivedOf}
 use Rattle.book.specs.Soundness.{sound}
 use Rattle.book.specs.Status.{statusIn, offerIn}
 use Rattle.lookup.specs.Match.{matched}
 use Rattle.book.specs.Answers.{freshRefusal, freshBook, bookRefusal}
 use Rattle.lookup.specs.Lookup.{lookup}
-use Rattle.book.specs.declared.Entry.{Entry}
+use Rattle.book_words.specs.declared.Entry.{Entry}
 use Rattle.lookup.specs.declared.Lookup.the-variants.{Found}
 use Rattle.book.proofs.Headers.{sound-book}
 use Rattle.book.proofs.Usable.{usable-book}
-use Rattle.book.proofs.BookWords.{entries-back, sound-back}
+use Rattle.book_words.proofs.BookWords.{entries-back}
+use Rattle.book.proofs.SoundBooks.{sound-back}
 use Rattle.book.proofs.FreshBooks.{fresh-sound, fresh-entries}
 use Rattle.notice.proofs.NoticeLaws.{notice-refusals}
 use Rattle.history.specs.Effect.{Known, afterNotice}

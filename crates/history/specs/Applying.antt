@@ -7,10 +7,10 @@ use lib.Dec.{eqb, leb, ltb}
 use lib.ListN.{length}
 use Rattle.refusal.specs.Refusal.{bookTooShort, receivedEarlier, bookFull}
 use Rattle.notice.specs.NoticeRule.{Notice, Reading, notice, unread, readNotice}
-use Rattle.book.specs.Layout.{headerWords, periodOf, receivedOf, latestOf, held, entriesOf, bookOf}
+use Rattle.book_words.specs.Layout.{headerWords, periodOf, receivedOf, latestOf, held, entriesOf, bookOf}
 use Rattle.book.specs.Status.{offerIn}
 use Rattle.book.specs.Answers.{bookRefusal}
-use Rattle.book.specs.declared.Entry.{Entry}
+use Rattle.book_words.specs.declared.Entry.{Entry}
 use Rattle.history.specs.Effect.{Known, afterNotice}
 use Rattle.history.specs.ChangeDays.{changeDays}
 use Rattle.history.specs.Machine.{words}

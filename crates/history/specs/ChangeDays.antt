@@ -8,8 +8,8 @@ use lib.Dec.{eqb}
 use lib.ListN.{length}
 use Rattle.dial_code.specs.Key.{keysEnd}
 use Rattle.rate.specs.Time.{lastDay}
-use Rattle.book.specs.Layout.{entry}
-use Rattle.book.specs.declared.Entry.{Entry}
+use Rattle.book_words.specs.Layout.{entry}
+use Rattle.book_words.specs.declared.Entry.{Entry}
 
 -- The change days of one code among n days from d on, where its offer word on the day before is `before`. Statuses are given as
 -- offer words by key and day.

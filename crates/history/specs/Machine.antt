@@ -10,7 +10,7 @@ use Rattle.rate.specs.OfferWord.{wordOf}
 use Rattle.rate.specs.declared.Offer.{Offer}
 use Rattle.rate.specs.declared.Offer.the-variants.{Closed}
 use Rattle.notice.specs.NoticeRule.{Notice, Reading, notice, unread, readNotice}
-use Rattle.book.specs.Layout.{headerWords, held}
+use Rattle.book_words.specs.Layout.{headerWords, held}
 use Rattle.lookup.specs.Match.{matched}
 use Rattle.lookup.specs.declared.Answer.{Answer}
 use Rattle.history.specs.Effect.{Known, afterNotice}

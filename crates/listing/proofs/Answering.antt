@@ -22,7 +22,7 @@ use Rattle.notice_line.specs.declared.Line.{Line}
 use Rattle.notice_writing.proofs.LayoutLaws.{header-bytes, notice-bytes}
 use Rattle.notice_writing.proofs.NoticeBack.{Leads, valid-leads}
 use Rattle.notice_writing.proofs.Sizes.{header-encodable, header-sized}
-use Rattle.book.specs.Layout.{entriesOf}
+use Rattle.book_words.specs.Layout.{entriesOf}
 use Rattle.book.specs.Soundness.{sound}
 use Rattle.book.specs.Answers.{bookRefusal}
 use Rattle.listing.specs.List.{standingLines, standingNotice, listOf, listRefusal, listed, listAnswer, listBytes}

@@ -17,7 +17,7 @@ use Rattle.notice_line.specs.declared.Line.{Line}
 use Rattle.book.specs.Soundness.{isHeld, isOfferWord}
 use Rattle.book.specs.Status.{statusFrom, statusIn, heldOffer, offerIn}
 use Rattle.lookup.specs.Match.{isStanding}
-use Rattle.book.specs.declared.Entry.{Entry}
+use Rattle.book_words.specs.declared.Entry.{Entry}
 use Rattle.book.proofs.SoundLists.{After, same, next, Allowed, SoundFrom, Sound, after-key}
 use Rattle.book.proofs.Statuses.{smaller, begins-later}
 use Rattle.listing.specs.List.{codesOf, codeLine, linesFor, standingLines}

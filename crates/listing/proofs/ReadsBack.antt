@@ -15,7 +15,7 @@ use Rattle.notice.specs.NoticeRule.{notice, readNotice}
 use Rattle.notice_writing.specs.Layout.{encodeNotice}
 use Rattle.notice_line.specs.declared.Line.{Line}
 use Rattle.notice_writing.proofs.NoticeBack.{notice-back}
-use Rattle.book.specs.Layout.{entriesOf}
+use Rattle.book_words.specs.Layout.{entriesOf}
 use Rattle.book.specs.Answers.{bookRefusal}
 use Rattle.book.proofs.Usable.{usable-sound}
 use Rattle.listing.specs.List.{standingLines, standingNotice, listOf, listRefusal, listed, listAnswer, listBytes}

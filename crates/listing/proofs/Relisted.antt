@@ -16,7 +16,7 @@ use Rattle.rate.specs.declared.Offer.{Offer}
 use Rattle.rate.specs.declared.Offer.the-variants.{Closed}
 use Rattle.notice.specs.NoticeRule.{Notice, Reading, notice, readNotice}
 use Rattle.notice_writing.specs.Layout.{encodeNotice}
-use Rattle.book.specs.Layout.{headerWords, held, entriesOf}
+use Rattle.book_words.specs.Layout.{headerWords, held, entriesOf}
 use Rattle.book.specs.Status.{offerIn}
 use Rattle.lookup.specs.Match.{answer, longest, matched}
 use Rattle.dial_code.specs.Digits.{isDialled}

@@ -18,11 +18,11 @@ use Rattle.notice.specs.NoticeRule.{replacement}
 use Rattle.notice_writing.specs.Layout.{encodeNotice}
 use Rattle.notice_line.specs.declared.Line.{Line}
 use Rattle.notice.proofs.LinesLaws.{ValidFrom}
-use Rattle.book.specs.Layout.{entry, entriesOf}
+use Rattle.book_words.specs.Layout.{entry, entriesOf}
 use Rattle.book.specs.Answers.{bookRefusal}
 use Rattle.book.specs.Status.{statusFrom, statusIn, heldOffer, offerIn}
 use Rattle.lookup.specs.Match.{isStanding}
-use Rattle.book.specs.declared.Entry.{Entry}
+use Rattle.book_words.specs.declared.Entry.{Entry}
 use Rattle.book.proofs.SoundLists.{next, SoundFrom, Sound, to-sound}
 use Rattle.book.proofs.Statuses.{smaller, other-key, begins-later, starts-closed}
 use Rattle.book.proofs.Unique.{unique}

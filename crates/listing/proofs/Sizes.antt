@@ -21,7 +21,7 @@ use Rattle.notice_line.specs.declared.Line.{Line}
 use Rattle.notice_writing.proofs.LayoutLaws.{line-opens, line-bytes, lines-nil, lines-cons, lines-append}
 use Rattle.notice_writing.proofs.Sizes.{code-fits, one-more, terms-encodable}
 use Rattle.book.specs.Status.{heldOffer}
-use Rattle.book.specs.declared.Entry.{Entry}
+use Rattle.book_words.specs.declared.Entry.{Entry}
 use Rattle.listing.specs.Pass.{stands, entryLine, addedBy}
 use Rattle.listing.proofs.Passing.{passed, offerAt}
 

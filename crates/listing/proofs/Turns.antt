@@ -21,11 +21,11 @@ use Rattle.notice_line.specs.LineRule.{lineOf}
 use Rattle.notice_writing.specs.Layout.{lineFields, encodeLines}
 use Rattle.notice_line.specs.declared.Line.{Line}
 use Rattle.notice_writing.proofs.LayoutLaws.{line-bytes, lines-nil, lines-append}
-use Rattle.book.specs.Layout.{headerWords, entryWords, mostEntries, entryAt, entriesFrom, entriesOf}
+use Rattle.book_words.specs.Layout.{headerWords, entryWords, mostEntries, entryAt, entriesFrom, entriesOf}
 use Rattle.book.specs.Soundness.{headedCount, sound}
 use Rattle.book.specs.Status.{heldOffer}
-use Rattle.book.specs.declared.Entry.{Entry}
-use Rattle.book.proofs.Rows.{of-book, rows-none, rows-step, length-entries}
+use Rattle.book_words.specs.declared.Entry.{Entry}
+use Rattle.book_words.proofs.Rows.{of-book, rows-none, rows-step, length-entries}
 use Rattle.book.proofs.Headers.{sound-book, sound-count}
 use Rattle.book.proofs.SoundLists.{entries-sound}
 use Rattle.listing.specs.List.{standingLines}

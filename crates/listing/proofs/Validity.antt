@@ -15,9 +15,9 @@ use Rattle.rate.specs.Time.{lastReceivedDay}
 use Rattle.notice_line.proofs.LineLaws.{ValidLine}
 use Rattle.notice.proofs.LinesLaws.{ValidFrom}
 use Rattle.notice.proofs.NoticeLaws.{Valid}
-use Rattle.book.specs.Layout.{entriesOf}
+use Rattle.book_words.specs.Layout.{entriesOf}
 use Rattle.book.specs.Soundness.{sound}
-use Rattle.book.specs.declared.Entry.{Entry}
+use Rattle.book_words.specs.declared.Entry.{Entry}
 use Rattle.book.proofs.SoundLists.{After, same, next, Allowed, SoundFrom, Sound, entries-sound}
 use Rattle.book.proofs.Statuses.{Before, smaller, earlier, before-on, before-after}
 use Rattle.listing.specs.List.{standingLines, standingNotice}

@@ -19,11 +19,11 @@ use Rattle.notice_line.specs.LineRule.{lineOf}
 use Rattle.notice.specs.NoticeRule.{full, Notice}
 use Rattle.notice_writing.specs.Layout.{encodeNotice}
 use Rattle.notice_line.specs.declared.Line.{Line}
-use Rattle.book.specs.Layout.{entriesOf}
+use Rattle.book_words.specs.Layout.{entriesOf}
 use Rattle.book.specs.Status.{offerIn}
 use Rattle.lookup.specs.Match.{isStanding}
 use Rattle.book.specs.Answers.{bookRefusal}
-use Rattle.book.specs.declared.Entry.{Entry}
+use Rattle.book_words.specs.declared.Entry.{Entry}
 use Rattle.listing.specs.declared.Listed.{Listed}
 
 -- The keys of a book's codes in the order of its entries, each once: that of an entry whose successor has another or is none.

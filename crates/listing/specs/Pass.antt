@@ -8,7 +8,7 @@ use Rattle.rate.specs.OfferWord.{offerOf}
 use Rattle.notice_line.specs.LineRule.{lineOf}
 use Rattle.notice_line.specs.declared.Line.{Line}
 use Rattle.book.specs.Status.{heldOffer}
-use Rattle.book.specs.declared.Entry.{Entry}
+use Rattle.book_words.specs.declared.Entry.{Entry}
 
 -- the first of the entries after an entry is of the same code and not after the day
 unfoldable pub isReplaced : Entry → List Entry → ℕ → Bool

@@ -7,11 +7,11 @@ ghost use lib.ListN.{length};
 ghost use lib.Seq.{sets};
 ghost use Rattle.rate.specs.Time.{isReceivedDay};
 ghost use Rattle.notice_writing.specs.Layout.{encodeLines};
-ghost use Rattle.book.specs.Layout.{entriesFrom, entriesOf};
+ghost use Rattle.book_words.specs.Layout.{entriesFrom, entriesOf};
 ghost use Rattle.book.specs.Soundness.{sound};
 ghost use Rattle.listing.specs.List.{standingLines, listOf, listed, listAnswer, listBytes};
 ghost use Rattle.listing.specs.Pass.{stands, entryLine, addedBy};
-use book::Entry;
+use book_words::Entry;
 use notice_line::Line;
 use rate::Day;
 use rate::Offer;
@@ -49,7 +49,7 @@ fn is_standing(words: &[u64], at: u32, left: usize, e: Entry, day: u64) -> bool
     if left == 0 {
         return true;
     }
-    let next = book::entry_at(words, at);
+    let next = book_words::entry_at(words, at);
     if e.key != next.key {
         return true;
     }
@@ -125,11 +125,11 @@ fn count_lines(words: &[u64], day: u64) -> usize
     ensures { λ r. ⌜ r ≡ length (standingLines (entriesOf (now (words .entry))) day) ⌝ }
 {
     let mut lines: usize = 0;
-    let mut at = book::HEADER_WORDS as u32;
+    let mut at = book_words::HEADER_WORDS as u32;
     let mut left = book::headed_count(words);
     while 0 < left {
-        let e = book::entry_at(words, at);
-        at += book::ENTRY_WORDS as u32;
+        let e = book_words::entry_at(words, at);
+        at += book_words::ENTRY_WORDS as u32;
         left -= 1;
         lines += added_lines(words, at, left, e, day);
     }
@@ -142,11 +142,11 @@ fn lines_size(words: &[u64], day: u64) -> usize
     ensures { λ r. ⌜ r ≡ length (encodeLines (standingLines (entriesOf (now (words .entry))) day)) ⌝ }
 {
     let mut size: usize = 0;
-    let mut at = book::HEADER_WORDS as u32;
+    let mut at = book_words::HEADER_WORDS as u32;
     let mut left = book::headed_count(words);
     while 0 < left {
-        let e = book::entry_at(words, at);
-        at += book::ENTRY_WORDS as u32;
+        let e = book_words::entry_at(words, at);
+        at += book_words::ENTRY_WORDS as u32;
         left -= 1;
         size += added_size(words, at, left, e, day);
     }
@@ -175,11 +175,11 @@ fn write_lines(words: &[u64], day: u64, out: &mut [u8], from: usize) -> usize
         (encodeLines (standingLines (entriesOf (now (words .entry))) day)) ⌝ }
 {
     let mut end = from;
-    let mut at = book::HEADER_WORDS as u32;
+    let mut at = book_words::HEADER_WORDS as u32;
     let mut left = book::headed_count(words);
     while 0 < left {
-        let e = book::entry_at(words, at);
-        at += book::ENTRY_WORDS as u32;
+        let e = book_words::entry_at(words, at);
+        at += book_words::ENTRY_WORDS as u32;
         left -= 1;
         end = write_at(words, at, left, e, day, out, end);
     }

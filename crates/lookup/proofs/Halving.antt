@@ -11,12 +11,12 @@ use borrow.Author.Tests.{eq-eqb, ne-eqb, lt-leb, lt-ltb, le-ltb}
 use lib.Dec.{eqb, leb, ltb}
 use lib.ListN.{length}
 use Rattle.dial_code.proofs.Tests.{below, equal, above, order}
-use Rattle.book.specs.Layout.{headerWords, entryWords, mostEntries, countOf, entry, entryAt, entriesFrom, entriesOf}
+use Rattle.book_words.specs.Layout.{headerWords, entryWords, mostEntries, countOf, entry, entryAt, entriesFrom, entriesOf}
 use Rattle.lookup.specs.Search.{notAfter, halved, upTo, foundUpTo, lastEntry, ownWord}
 use Rattle.book.specs.Soundness.{sound}
 use Rattle.book.specs.Status.{statusFrom, statusIn}
-use Rattle.book.specs.declared.Entry.{Entry}
-use Rattle.book.proofs.Rows.{entryIn, of-book, row-at, length-rows}
+use Rattle.book_words.specs.declared.Entry.{Entry}
+use Rattle.book_words.proofs.Rows.{entryIn, of-book, row-at, length-rows}
 use Rattle.book.proofs.SoundLists.{Sound, entries-sound}
 use Rattle.book.proofs.Statuses.{Before, smaller, earlier, starts-closed, last-entry, no-last-entry}
 

@@ -22,13 +22,13 @@ use Rattle.country_code.proofs.CodeLaws.{no-first-digit}
 use Rattle.rate.specs.OfferWord.{offerOf}
 use Rattle.rate.specs.declared.Offer.{Offer}
 use Rattle.rate.specs.declared.Offer.the-variants.{Closed, Blocked, Open}
-use Rattle.book.specs.Layout.{countOf, entry, entriesOf}
+use Rattle.book_words.specs.Layout.{countOf, entry, entriesOf}
 use Rattle.book.specs.Soundness.{headedCount, sound}
 use Rattle.lookup.specs.Search.{upTo, foundUpTo, lastEntry, ownWord, tried, bestFound}
 use Rattle.book.specs.Status.{heldOffer, offerIn}
 use Rattle.lookup.specs.Match.{answer, isStanding, standing, longest, matched}
 use Rattle.lookup.specs.declared.Answer.{Answer}
-use Rattle.book.specs.declared.Entry.{Entry}
+use Rattle.book_words.specs.declared.Entry.{Entry}
 use Rattle.lookup.proofs.Halving.{Turns, found-turns, found-widely, found-between, after-smaller, other-offer}
 use Rattle.lookup.proofs.Halving.{found-most, no-last, closed-offer, last-status}
 use Rattle.book.proofs.Headers.{sound-count}

@@ -7,7 +7,7 @@ use Rattle.refusal.specs.Refusal.{notANumber, timeOutOfRange}
 use Rattle.dial_code.specs.Digits.{digitOf, isDialled}
 use Rattle.rate.specs.Time.{isDay}
 use Rattle.rate.specs.declared.Day.{Day}
-use Rattle.book.specs.Layout.{entriesOf}
+use Rattle.book_words.specs.Layout.{entriesOf}
 use Rattle.book.specs.Status.{offerIn}
 use Rattle.book.specs.Answers.{bookRefusal}
 use Rattle.lookup.specs.Match.{matched}

@@ -9,9 +9,9 @@ use Rattle.rate.specs.Price.{rate}
 use Rattle.rate.specs.OfferWord.{offerOf}
 use Rattle.rate.specs.declared.Offer.{Offer}
 use Rattle.rate.specs.declared.Offer.the-variants.{Closed, Blocked, Open}
-use Rattle.book.specs.Layout.{entry}
+use Rattle.book_words.specs.Layout.{entry}
 use Rattle.book.specs.Status.{offerIn}
-use Rattle.book.specs.declared.Entry.{Entry}
+use Rattle.book_words.specs.declared.Entry.{Entry}
 use Rattle.lookup.specs.declared.Answer.{Answer}
 
 abbrev pub answer : ℕ → Offer → Answer

@@ -10,11 +10,11 @@ use Rattle.dial_code.specs.Key.{key, prefixKey}
 use Rattle.rate.specs.Price.{rate}
 use Rattle.rate.specs.OfferWord.{offerOf}
 use Rattle.rate.specs.declared.Offer.the-variants.{Closed, Blocked, Open}
-use Rattle.book.specs.Layout.{headerWords, entryWords, entry, entryAt, bookOf}
+use Rattle.book_words.specs.Layout.{headerWords, entryWords, entry, entryAt, bookOf}
 use Rattle.book.specs.Soundness.{headedCount}
 use Rattle.book.specs.Status.{heldOffer}
 use Rattle.lookup.specs.Match.{answer, standing}
-use Rattle.book.specs.declared.Entry.{Entry}
+use Rattle.book_words.specs.declared.Entry.{Entry}
 use Rattle.lookup.specs.declared.Answer.{Answer}
 
 -- An entry of a smaller key, or of the key and not after the day.

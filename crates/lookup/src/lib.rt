@@ -2,12 +2,12 @@
 ghost use mathlib.Core.Path.{_≡_};
 ghost use Prim.Native.Nat.{_-_, _≤_, min};
 ghost use Rattle.rate.specs.OfferWord.{offerOf};
-ghost use Rattle.book.specs.Layout.{mostEntries};
+ghost use Rattle.book_words.specs.Layout.{mostEntries};
 ghost use Rattle.book.specs.Status.{heldOffer};
 ghost use Rattle.lookup.specs.Match.{isStanding};
 ghost use Rattle.lookup.specs.Search.{notAfter, foundUpTo, lastEntry, ownWord, bestFound};
 ghost use Rattle.lookup.specs.Lookup.{lookup};
-use book::Entry;
+use book_words::Entry;
 use dial_code::Keyed;
 use rate::Day;
 use rate::Offer;
@@ -46,7 +46,10 @@ fn entries_up_to(words: &[u64], count: usize, key: u64, day: u64) -> usize
     let mut hi = count;
     while lo < hi {
         let mid = lo + (hi - lo) / 2;
-        let e = book::entry_at(words, (book::HEADER_WORDS + mid * book::ENTRY_WORDS) as u32);
+        let e = book_words::entry_at(
+            words,
+            (book_words::HEADER_WORDS + mid * book_words::ENTRY_WORDS) as u32,
+        );
         if is_not_after(e, key, day) {
             lo = mid + 1;
         } else {
@@ -68,9 +71,9 @@ fn last_entry(words: &[u64], count: usize) -> Entry
             offer: 0,
         };
     }
-    book::entry_at(
+    book_words::entry_at(
         words,
-        (book::HEADER_WORDS + (count - 1) * book::ENTRY_WORDS) as u32,
+        (book_words::HEADER_WORDS + (count - 1) * book_words::ENTRY_WORDS) as u32,
     )
 }
 

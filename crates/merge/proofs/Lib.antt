@@ -1,13 +1,6 @@
--- The laws of the merge: words stored, the passes over entries, its lines, its statuses, soundness and length.
+-- The laws of the merge: words stored, the passes over entries one at a time, its lines, and how many entries it comes to.
 pub mod Stores
 pub mod PassLaws
-pub mod PassCases
-pub mod PassKeys
-pub mod Beyond
-pub mod GapStatus
-pub mod GroupStatus
-pub mod MergedStatus
-pub mod MergedSound
-pub mod MergedLength
 pub mod LinesAgain
 pub mod Merging
+pub mod MergedMost

@@ -13,14 +13,14 @@ use Rattle.notice.specs.NoticeRule.{mostLines}
 use Rattle.notice_line.specs.declared.Line.{Line}
 use Rattle.notice_line.specs.declared.LineRead.{LineRead}
 use Rattle.notice_line.specs.declared.LineRead.the-variants.{Read, Refused}
-use Rattle.book.specs.Layout.{headerWords, entryWords, latestOf, entriesFrom, wordsOf}
+use Rattle.book_words.specs.Layout.{headerWords, entryWords, latestOf, entriesFrom, wordsOf}
 use Rattle.book.specs.Soundness.{headedCount}
-use Rattle.book.specs.declared.Entry.{Entry}
-use Rattle.book.proofs.Rows.{length-rows}
+use Rattle.book_words.specs.declared.Entry.{Entry}
+use Rattle.book_words.proofs.Rows.{length-rows}
 use Rattle.effect.specs.Lines.{foundIn, effectiveBy, changeBy, changesBy, latestBy}
 use Rattle.effect.specs.Closings.{closesBy}
 use Rattle.effect.specs.declared.Plan.{Plan}
-use Rattle.merge.specs.Passes.{gapBelow, lineEntries, lineRest, merged}
+use Rattle.merge_rule.specs.Passes.{gapBelow, lineEntries, lineRest, merged}
 use Rattle.merge.specs.Lines.{linesAt}
 use Rattle.merge.specs.Merge.{mostMerged, stored, mergedBy, mergedAnswer, mergedLeaves, Passed}
 use Rattle.merge.specs.declared.Merged.{Merged}

@@ -7,11 +7,11 @@ use native.Mathlib.Omega.{arith}
 use borrow.Author.Tests.{lt-ltb, le-ltb, eq-eqb, ne-eqb}
 use lib.Dec.{eqb, ltb}
 use lib.ListN.{length, length-append}
-use Rattle.book.specs.Layout.{entryWords, entry, entryAt, entriesFrom}
-use Rattle.book.specs.declared.Entry.{Entry}
-use Rattle.book.proofs.Rows.{rows-step, length-rows}
-use Rattle.merge.specs.Passes.{goesOn, closedOne, unlistedAs, gapBelow, restFrom, placed, listedGroup}
-use Rattle.merge.specs.Passes.{keptOf, statusOf, restAfter, lineEntries, lineRest}
+use Rattle.book_words.specs.Layout.{entryWords, entry, entryAt, entriesFrom}
+use Rattle.book_words.specs.declared.Entry.{Entry}
+use Rattle.book_words.proofs.Rows.{rows-step, length-rows}
+use Rattle.merge_rule.specs.Passes.{goesOn, closedOne, unlistedAs, gapBelow, restFrom, placed, listedGroup}
+use Rattle.merge_rule.specs.Passes.{keptOf, statusOf, restAfter, lineEntries, lineRest}
 use Rattle.merge.specs.Merge.{Passed}
 use Rattle.merge.specs.declared.Place.{Place}
 

@@ -6,10 +6,10 @@ use Prim.Native.Nat.{ℕ, _+_, _*_}
 use native.Mathlib.Omega.{arith}
 use lib.ListN.{length, length-append}
 use lib.Seq.{length-sets}
-use Rattle.book.specs.Layout.{headerWords, entryWords, wordsOf}
-use Rattle.book.specs.declared.Entry.{Entry}
-use Rattle.book.proofs.BookWords.{length-words}
-use Rattle.book.proofs.Places.{sets-on}
+use Rattle.book_words.specs.Layout.{headerWords, entryWords, wordsOf}
+use Rattle.book_words.specs.declared.Entry.{Entry}
+use Rattle.book_words.proofs.BookWords.{length-words}
+use Rattle.book_words.proofs.Places.{sets-on}
 use Rattle.merge.specs.Merge.{stored}
 
 pub stored-nil : (write : Bool) (l : List ℕ) (i : ℕ) → stored write l i [] ≡ l

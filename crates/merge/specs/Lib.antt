@@ -1,4 +1,3 @@
--- The entries of a new book, part by part and as a whole.
-pub mod Passes
+-- The merge as a whole.
 pub mod Lines
 pub mod Merge

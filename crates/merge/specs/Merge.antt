@@ -8,13 +8,13 @@ use lib.Seq.{sets}
 use Rattle.dial_code.specs.Key.{keysEnd}
 use Rattle.notice.specs.NoticeRule.{mostLines}
 use Rattle.notice_line.specs.declared.Line.{Line}
-use Rattle.book.specs.Layout.{headerWords, entryWords, mostEntries, mostWords, latestOf, entriesFrom, wordsOf}
+use Rattle.book_words.specs.Layout.{headerWords, entryWords, mostEntries, mostWords, latestOf, entriesFrom, wordsOf}
 use Rattle.book.specs.Soundness.{headedCount}
-use Rattle.book.specs.declared.Entry.{Entry}
+use Rattle.book_words.specs.declared.Entry.{Entry}
 use Rattle.effect.specs.Lines.{foundIn, changesBy, latestBy}
 use Rattle.effect.specs.Closings.{closesBy}
 use Rattle.effect.specs.declared.Plan.{Plan}
-use Rattle.merge.specs.Passes.{keptOf, statusOf, restAfter, merged}
+use Rattle.merge_rule.specs.Passes.{keptOf, statusOf, restAfter, merged}
 use Rattle.merge.specs.Lines.{linesAt}
 use Rattle.merge.specs.declared.Kept.{Kept}
 use Rattle.merge.specs.declared.Merged.{Merged}

@@ -4,11 +4,11 @@ ghost use mathlib.Core.Path.{_≡_};
 ghost use mathlib.Core.List.{[], _∷_};
 ghost use Prim.Native.Nat.{_+_, _*_, _≤_, min};
 ghost use lib.ListN.{length};
-ghost use Rattle.book.specs.Layout.{headerWords, entryWords, entriesFrom, wordsOf};
+ghost use Rattle.book_words.specs.Layout.{headerWords, entryWords, entriesFrom, wordsOf};
 ghost use Rattle.effect.specs.Closings.{closesBy};
-ghost use Rattle.merge.specs.Passes.{goesOn, unlistedAs, gapBelow, restFrom, listedGroup, keptOf, restAfter, lineEntries, lineRest};
+ghost use Rattle.merge_rule.specs.Passes.{goesOn, unlistedAs, gapBelow, restFrom, listedGroup, keptOf, restAfter, lineEntries, lineRest};
 ghost use Rattle.merge.specs.Merge.{mostMerged, stored, stands, Passed, PassedListed, mergedAnswer, mergedLeaves};
-use book::Entry;
+use book_words::Entry;
 use effect::Plan;
 use notice_line::LineRead;
 
@@ -45,9 +45,9 @@ fn put(new: &mut [u64], count: usize, e: Entry, write: bool)
     ensures { λ _. ⌜ now (new .exit) ≡ stored write (now (new .entry)) (headerWords + count * entryWords) (wordsOf (e ∷ [])) ⌝ }
 {
     if write {
-        book::write_entry(
+        book_words::write_entry(
             new,
-            (book::HEADER_WORDS + count * book::ENTRY_WORDS) as u32,
+            (book_words::HEADER_WORDS + count * book_words::ENTRY_WORDS) as u32,
             e,
         );
     }
@@ -60,7 +60,7 @@ fn goes_on(old: &[u64], at: u32, left: usize, e: Entry, day: u64) -> bool
     if left == 0 {
         return false;
     }
-    let f = book::entry_at(old, at);
+    let f = book_words::entry_at(old, at);
     if e.key != f.key {
         return false;
     }
@@ -132,7 +132,7 @@ fn pass_unlisted(
     let day = plan.closing;
     let mut alike = effect::closed_anyway(plan);
     while 0 < left {
-        let e = book::entry_at(old, at);
+        let e = book_words::entry_at(old, at);
         if below <= e.key {
             return Place { at, left, count };
         }
@@ -140,7 +140,7 @@ fn pass_unlisted(
         if !country_code::is_within(keys, e.key) {
             alike = effect::closed_range(plan, marks, e.key);
         }
-        at += book::ENTRY_WORDS as u32;
+        at += book_words::ENTRY_WORDS as u32;
         left -= 1;
         count = put_unlisted(old, at, left, e, alike.closed, day, new, count, write);
     }
@@ -159,7 +159,7 @@ fn keep_listed(old: &[u64], from: Place, change: Entry, new: &mut [u64], write: 
     let mut count = from.count;
     let mut status: u64 = 0;
     while 0 < left {
-        let e = book::entry_at(old, at);
+        let e = book_words::entry_at(old, at);
         if e.key != change.key {
             return Kept {
                 at,
@@ -168,7 +168,7 @@ fn keep_listed(old: &[u64], from: Place, change: Entry, new: &mut [u64], write: 
                 status,
             };
         }
-        at += book::ENTRY_WORDS as u32;
+        at += book_words::ENTRY_WORDS as u32;
         left -= 1;
         if e.day < change.day {
             put(new, count, e, write);
@@ -247,11 +247,11 @@ pub fn merge(
         (now (new .entry)) ⌝ }
 {
     let mut place = Place {
-        at: book::HEADER_WORDS as u32,
+        at: book_words::HEADER_WORDS as u32,
         left: book::headed_count(old),
         count: 0,
     };
-    let header = book::header_of(old);
+    let header = book_words::header_of(old);
     let mut latest = header.latest;
     let mut at = start;
     let mut left = lesser(lines, notice::MOST_LINES);

@@ -8,13 +8,13 @@ use Rattle.rate.specs.declared.Day.{Day}
 use Rattle.rate.specs.declared.Moment.{Moment}
 use Rattle.rate.specs.declared.Offer.{Offer}
 use Rattle.rate.specs.declared.Offer.the-variants.{Closed, Blocked, Open}
-use Rattle.book.specs.Layout.{headerWords, entryWords, mostEntries, held}
+use Rattle.book_words.specs.Layout.{headerWords, entryWords, mostEntries, held}
 use Rattle.lookup.specs.Match.{answer}
 use Rattle.lookup.specs.declared.Lookup.{Lookup}
 use Rattle.lookup.specs.declared.Lookup.the-variants.{Found, Refused}
 use Rattle.history.specs.declared.Applied.{Applied}
 use Rattle.rating.specs.declared.Call.{Call}
-use Rattle.rating.specs.declared.Batch.{Batch}
+use Rattle.batch.specs.declared.Batch.{Batch}
 use Rattle.listing.specs.declared.Listed.{Listed}
 use Rattle.rate_book.specs.declared.RateBookApplied.{RateBookApplied}
 use Rattle.rate_book.specs.declared.RateBookOffer.{RateBookOffer}

@@ -6,9 +6,10 @@ ghost use Rattle.book.specs.Answers.{freshRefusal, freshWords};
 ghost use Rattle.lookup.specs.Lookup.{lookup};
 ghost use Rattle.history.specs.Applying.{applyAnswer, applied};
 ghost use Rattle.rating.specs.Call.{rateCall};
-ghost use Rattle.rating.specs.Batch.{batchAnswer, batchRows};
+ghost use Rattle.batch.specs.Batch.{batchAnswer, batchRows};
 ghost use Rattle.listing.specs.List.{listAnswer, listBytes};
 ghost use Rattle.rate_book.specs.Exported.{day as dayAt, moment as momentAt, wordsFor, appliedOf, answerOf, offerOf, callOf, batchOf, listOf};
+use batch::Batch;
 use history::Applied;
 use listing::Listed;
 use lookup::Answer;
@@ -16,7 +17,6 @@ use lookup::Lookup;
 use rate::Day;
 use rate::Moment;
 use rate::Offer;
-use rating::Batch;
 use rating::Call;
 
 #[repr(C)]
@@ -155,9 +155,9 @@ fn list_of(l: Listed) -> RateBookList
 pub extern "C" fn rate_book_words(entries: u64) -> u64
     ensures { λ r. ⌜ r ≡ wordsFor entries ⌝ }
 {
-    let header = book::HEADER_WORDS as u64;
-    let each = book::ENTRY_WORDS as u64;
-    let most = book::MOST_ENTRIES as u64;
+    let header = book_words::HEADER_WORDS as u64;
+    let each = book_words::ENTRY_WORDS as u64;
+    let most = book_words::MOST_ENTRIES as u64;
     if most < entries {
         return header + most * each;
     }
@@ -213,7 +213,7 @@ pub extern "C" fn rate_book_rate_batch(
     ensures { λ r. ⌜ r ≡ batchOf (batchAnswer (now (book .entry)) (now (batch .entry)) (length (now (rows .entry)))) ⌝ }
     ensures { λ _. ⌜ now (rows .exit) ≡ batchRows (now (book .entry)) (now (batch .entry)) (now (rows .entry)) ⌝ }
 {
-    batch_of(rating::rate_batch(book, batch, rows))
+    batch_of(batch::rate_batch(book, batch, rows))
 }
 
 // Writes the standing list of a day: 20, 21, 41, 43, 23.

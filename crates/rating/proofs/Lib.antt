@@ -1,7 +1,2 @@
--- The laws of rating calls.
+-- The laws of rating one call.
 pub mod Calls
-pub mod Records
-pub mod Rows
-pub mod MostCharged
-pub mod BatchTests
-pub mod BatchLaws

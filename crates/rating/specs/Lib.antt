@@ -1,3 +1,2 @@
--- The rules of rating calls.
+-- The rules of rating one call.
 pub mod Call
-pub mod Batch

@@ -14,11 +14,12 @@ use Rattle.notice.proofs.Checking.{Passed, check-passed, check-refused}
 use Rattle.notice.proofs.NoticeLaws.{notice-valid, notice-refusals}
 use Rattle.refusal.specs.Refusal.{bookTooShort, receivedEarlier, bookFull}
 use Rattle.rate.specs.Time.{lastReceivedDay}
-use Rattle.book.specs.Layout.{headerWords, entryWords, periodOf, receivedOf, latestOf, held, bookOf}
+use Rattle.book_words.specs.Layout.{headerWords, entryWords, periodOf, receivedOf, latestOf, held, bookOf}
 use Rattle.book.specs.Soundness.{sound}
 use Rattle.book.specs.Answers.{bookRefusal}
-use Rattle.book.specs.declared.Entry.{Entry}
-use Rattle.book.proofs.Headers.{sound-book, held-fits}
+use Rattle.book_words.specs.declared.Entry.{Entry}
+use Rattle.book_words.proofs.BookWords.{held-fits}
+use Rattle.book.proofs.Headers.{sound-book}
 use Rattle.book.proofs.Usable.{usable-book}
 use Rattle.history.specs.Applying.{afterBook, newEntries, judgedBy, applyRefusal, refusedApply, applyAnswer, applied}
 use Rattle.history.specs.declared.Applied.{Applied}

@@ -21,12 +21,12 @@ use Rattle.notice.specs.declared.Summary.{Summary}
 use Rattle.notice.proofs.Checking as checking
 use Rattle.notice.proofs.LinesLaws.{ValidFrom}
 use Rattle.notice.proofs.NoticeLaws.{Valid, notice-valid}
-use Rattle.book.specs.Layout.{headerWords, entry, entriesFrom, entriesOf, periodOf, latestOf}
-use Rattle.book.specs.declared.Entry.{Entry}
+use Rattle.book_words.specs.Layout.{headerWords, entry, entriesFrom, entriesOf, periodOf, latestOf}
+use Rattle.book_words.specs.declared.Entry.{Entry}
 use Rattle.book.specs.Soundness.{sound, soundEntries}
 use Rattle.book.specs.Status.{statusIn}
 use Rattle.book.proofs.Headers.{sound-book, sound-count}
-use Rattle.book.proofs.Rows.{of-book}
+use Rattle.book_words.proofs.Rows.{of-book}
 use Rattle.lookup.specs.declared.Answer.{Answer}
 use Rattle.lookup.proofs.Matching.{best-found}
 use Rattle.book.proofs.SoundLists.{to-sound}
@@ -38,7 +38,7 @@ use Rattle.history.specs.Applying.{inBook, afterBook, newEntries}
 use Rattle.history.proofs.ChangeLaws.{status-back}
 use Rattle.history.proofs.Keeping.{GoodLine, GoodLines, Good, good, effective-by, closing-by}
 use Rattle.history.proofs.Books.{is-word, admissible, standing-after, new-entries-sound, given-word}
-use Rattle.merge.specs.Passes.{merged}
+use Rattle.merge_rule.specs.Passes.{merged}
 use Rattle.effect.specs.Lines.{foundIn, raises, wantedBy, effectiveBy, changeBy, changesBy, latestBy}
 use Rattle.effect.specs.Closings.{closesBy}
 use Rattle.merge.specs.Merge.{mergedBy}
@@ -46,9 +46,9 @@ use Rattle.update.specs.Plans.{planOf, marksFor}
 use Rattle.effect.specs.declared.Plan.{Plan}
 use Rattle.update.proofs.PlanLaws.{Summed, given, effective-is, closing-is, latest-is}
 use Rattle.update.proofs.Marks.{closes-is}
-use Rattle.merge.proofs.Beyond.{sound-keys}
-use Rattle.merge.proofs.MergedStatus.{Rising, Found, none, some, changeFor, outcome, merged-status}
-use Rattle.merge.proofs.MergedSound.{AllAllowed, merged-sound}
+use Rattle.merge_rule.proofs.Beyond.{sound-keys}
+use Rattle.merge_rule.proofs.MergedStatus.{Rising, Found, none, some, changeFor, outcome, merged-status}
+use Rattle.merge_rule.proofs.MergedSound.{AllAllowed, merged-sound}
 
 -- the change of a line that is listed
 found : Plan → Known → Listing → Found

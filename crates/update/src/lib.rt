@@ -9,14 +9,14 @@ ghost use Rattle.country_code.specs.CountryCode.{countryOfKey};
 ghost use Rattle.rate.specs.Time.{lastReceivedDay};
 ghost use Rattle.notice.specs.NoticeRule.{mostLines, checkNotice};
 ghost use Rattle.notice.specs.declared.Checked.the-variants.{Notice};
-ghost use Rattle.book.specs.Layout.{headerWords, entryWords, mostPeriod, held, bookOf, periodOf, latestOf};
+ghost use Rattle.book_words.specs.Layout.{headerWords, entryWords, mostPeriod, held, bookOf, periodOf, latestOf};
 ghost use Rattle.book.specs.Soundness.{sound};
 ghost use Rattle.history.specs.Applying.{refusedApply, applyAnswer, applied};
 ghost use Rattle.effect.specs.Lines.{foundIn, latestBy};
 ghost use Rattle.merge.specs.Lines.{linesAt};
 ghost use Rattle.merge.specs.Merge.{mergedBy};
 ghost use Rattle.update.specs.Plans.{planOf, marked, marksOf, marksFor};
-use book::Header;
+use book_words::Header;
 use country_code::Country;
 use effect::Plan;
 use history::Applied;
@@ -35,7 +35,7 @@ pub fn apply(old: &[u64], notice: &[u8], new: &mut [u64]) -> Applied
     if unusable != 0 {
         return refused(unusable);
     }
-    if new.len() < book::HEADER_WORDS {
+    if new.len() < book_words::HEADER_WORDS {
         return refused(refusal::BOOK_TOO_SHORT);
     }
     match notice::check_notice(notice) {
@@ -61,7 +61,7 @@ fn apply_checked(old: &[u64], notice: &[u8], m: Summary, new: &mut [u64]) -> App
     ensures { λ r. ⌜ r ≡ applyAnswer (now (old .entry)) (now (notice .entry)) (length (now (new .entry))) ⌝ }
     ensures { λ _. ⌜ now (new .exit) ≡ applied (now (old .entry)) (now (notice .entry)) (now (new .entry)) ⌝ }
 {
-    let header = book::header_of(old);
+    let header = book_words::header_of(old);
     if m.received < header.received {
         return refused(refusal::RECEIVED_EARLIER);
     }
@@ -166,7 +166,7 @@ fn has_room(
         .entry)) (m .start)))) (held (length (now (new .entry)))) ⌝ }
     ensures { λ _. ⌜ now (new .exit) ≡ now (new .entry) ⌝ }
 {
-    let most = book::entries_held(new.len());
+    let most = book_words::entries_held(new.len());
     if (book::headed_count(old) as u64) * 2 + m.lines <= most as u64 {
         return true;
     }
@@ -193,14 +193,17 @@ fn fill(
         .start))) (mergedBy (now (old .entry)) plan (now (marks .entry)) (linesAt (m .lines) (now (notice .entry)) (m .start))) ⌝ }
 {
     let done = merge::merge(old, notice, m.start, m.lines, plan, marks, new, true);
-    book::clear(new, book::HEADER_WORDS + done.count * book::ENTRY_WORDS);
-    let before = book::header_of(old);
+    book_words::clear(
+        new,
+        book_words::HEADER_WORDS + done.count * book_words::ENTRY_WORDS,
+    );
+    let before = book_words::header_of(old);
     let header = Header {
         count: done.count as u64,
         period: before.period,
         received: m.received,
         latest: done.latest,
     };
-    book::write_header(new, header);
+    book_words::write_header(new, header);
     done
 }

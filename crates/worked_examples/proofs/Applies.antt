@@ -17,12 +17,12 @@ use Rattle.rate.specs.Charging.{chargeOf}
 use Rattle.rate.specs.declared.Offer.the-variants.{Closed, Open}
 use Rattle.rate.specs.declared.Charged.the-variants as charged
 use Rattle.notice.specs.NoticeRule.{Notice, notice, readNotice, readHeader}
-use Rattle.book.specs.Layout.{held}
+use Rattle.book_words.specs.Layout.{held}
 use Rattle.lookup.specs.Match.{answer, matched}
 use Rattle.book.specs.Answers.{freshRefusal, freshBook}
 use Rattle.lookup.specs.Lookup.{lookup}
 use Rattle.lookup.specs.declared.Lookup.the-variants.{Found}
-use Rattle.book.proofs.Headers.{held-fits, fits-held}
+use Rattle.book_words.proofs.BookWords.{held-fits, fits-held}
 use Rattle.history.specs.Effect.{someEarlier, effective, lineFor, namedBy, closes, closing, changeOf, latestEffective}
 use Rattle.history.specs.Machine.{known, answers, answerOf}
 use Rattle.history.specs.Applying.{applyRefusal, applyAnswer}

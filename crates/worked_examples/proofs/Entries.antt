@@ -21,11 +21,11 @@ use Rattle.notice_line.specs.LineRule.{readLine}
 use Rattle.notice.specs.NoticeRule.{Notice, notice, isCountryCode, readCountry, readNamed, readDated, readHeader}
 use Rattle.notice.specs.NoticeRule.{readLines, readNotice}
 use Rattle.notice_line.specs.declared.Line.{Line}
-use Rattle.book.specs.Layout.{entry}
+use Rattle.book_words.specs.Layout.{entry}
 use Rattle.book.specs.Soundness.{soundEntries}
 use Rattle.book.specs.Status.{statusIn}
 use Rattle.lookup.specs.Match.{matched}
-use Rattle.book.specs.declared.Entry.{Entry}
+use Rattle.book_words.specs.declared.Entry.{Entry}
 use Rattle.book.proofs.SoundLists.{to-sound}
 use Rattle.book.proofs.Unique.{unique}
 use Rattle.history.specs.Effect.{Known, unlisted, from, nothing, changed, someEarlier, effective, lineFor, namedBy}

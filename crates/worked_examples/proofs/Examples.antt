@@ -25,10 +25,10 @@ use Rattle.notice_line.specs.LineRule.{readLine}
 use Rattle.notice.specs.NoticeRule.{Reading, notice, isCountryCode, readCountry, readNamed, readDated, readHeader}
 use Rattle.notice.specs.NoticeRule.{readLines, readNotice}
 use Rattle.notice_line.specs.declared.Line.{Line}
-use Rattle.book.specs.Layout.{entry}
+use Rattle.book_words.specs.Layout.{entry}
 use Rattle.lookup.specs.Match.{answer, matched}
 use Rattle.lookup.specs.declared.Answer.{Answer}
-use Rattle.book.specs.declared.Entry.{Entry}
+use Rattle.book_words.specs.declared.Entry.{Entry}
 use Rattle.history.specs.Effect.{someEarlier, effective, lineFor, namedBy, closes, closing, changeOf, latestEffective}
 use Rattle.history.specs.ChangeDays.{changeDays}
 use Rattle.history.specs.Machine.{known, words, answerOf}

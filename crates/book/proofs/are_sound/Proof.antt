@@ -5,18 +5,17 @@ use Prim.Native.Nat.{_+_, _*_, _≤_}
 use native.Mathlib.Omega.{arith}
 use borrow.Author.Needs.{needs}
 use borrow.Author.Tests.{not-true, not-false}
-use lib.ListN.{length}
 use Rattle.dial_code.proofs.Tests.{and-left-false, and-left-true}
-use Rattle.book.specs.Layout.{headerWords, entryWords, entriesFrom}
+use Rattle.book_words.specs.Layout.{headerWords, entryWords, mostWords, entriesFrom}
 use Rattle.book.specs.Soundness.{soundEntries, soundAfter}
-use Rattle.book.proofs.Rows.{sound-none, sound-first, sound-turn, sound-end}
+use Rattle.book.proofs.SoundRows.{sound-none, sound-first, sound-turn, sound-end}
 use Rattle.book.proofs.SoundLists.{Allowed, begins-facts, follows-facts}
 use Rattle.book.proofs.are_sound.Statement.{statement}
 use Rattle.book.proofs.are_sound.Tie as tie
 
 abbrev Inv-loop : tie.InvT-loop
 Inv-loop words count before₀ at₀ left₀ before at left =
-    (at + left * entryWords ≤ length words)
+    (at + left * entryWords ≤ mostWords)
     × (soundEntries (entriesFrom words headerWords count) ≡ soundAfter before (entriesFrom words at left))
     × Allowed before
 
@@ -26,8 +25,8 @@ abbrev μ-loop : tie.MeasureT-loop
 returns : tie.Need-returns Inv-loop μ-loop
 returns c = sym (sound-none _ _ _ (c .if1 .taken))
 
-entry-in-requires : tie.Need-entry-in-requires Inv-loop μ-loop
-entry-in-requires c κs = search needs
+entry-at-requires : tie.Need-entry-at-requires Inv-loop μ-loop
+entry-at-requires c κs = search needs
 
 can-begin-requires : tie.Need-can-begin-requires Inv-loop μ-loop
 can-begin-requires c κs = search needs
@@ -36,7 +35,7 @@ returns-2 : tie.Need-returns-2 Inv-loop μ-loop
 returns-2 c =
     let p = c .before .before in
     sym
-    (sound-first _ _ (omega arith) (p .entry-in .ensures)
+    (sound-first _ _ (omega arith) (p .entry-at .ensures)
     ∙ and-left-false _ (sym (c .before .can-begin .ensures) ∙ not-true _ (c .if2 .taken)))
 
 add-at : tie.Need-add-at Inv-loop μ-loop
@@ -50,12 +49,12 @@ loop-holds c =
     let p = c .before .before in
     let b = sym (c .before .can-begin .ensures) ∙ not-false _ (c .if2 .left) in (
       omega arith,
-      sound-first _ _ (omega arith) (p .entry-in .ensures) ∙ and-left-true _ b,
+      sound-first _ _ (omega arith) (p .entry-at .ensures) ∙ and-left-true _ b,
       begins-facts _ b .1,
     )
 
-entry-in-requires-2 : tie.Need-entry-in-requires-2 Inv-loop μ-loop
-entry-in-requires-2 c κs = search needs
+entry-at-requires-2 : tie.Need-entry-at-requires-2 Inv-loop μ-loop
+entry-at-requires-2 c κs = search needs
 
 can-follow-requires : tie.Need-can-follow-requires Inv-loop μ-loop
 can-follow-requires c κs = c .before .before .loop .inv .2 .code
@@ -65,7 +64,7 @@ returns-3 c =
     let p = c .before .before in
     sym
     (p .before .before .loop .inv .1
-    ∙ sound-turn _ _ _ _ (p .before .loop-test .taken) (p .entry-in2 .ensures)
+    ∙ sound-turn _ _ _ _ (p .before .loop-test .taken) (p .entry-at2 .ensures)
     ∙ and-left-false _ (sym (c .before .can-follow .ensures) ∙ not-true _ (c .if3 .taken)))
 
 add-at-2 : tie.Need-add-at-2 Inv-loop μ-loop
@@ -83,12 +82,21 @@ loop-again c =
     let l = p .before .before .loop in
     let f = sym (c .before .can-follow .ensures) ∙ not-false _ (c .if3 .left) in (
       omega arith,
-      l .inv .1 ∙ sound-turn _ _ _ _ (p .before .loop-test .taken) (p .entry-in2 .ensures) ∙ and-left-true _ f,
+      l .inv .1 ∙ sound-turn _ _ _ _ (p .before .loop-test .taken) (p .entry-at2 .ensures) ∙ and-left-true _ f,
       follows-facts _ _ (l .inv .2) f .1,
     )
 
 returns-4 : tie.Need-returns-4 Inv-loop μ-loop
 returns-4 c = sym (c .before .loop .inv .1 ∙ sound-end _ _ _ _ (omega arith))
+
+cast-entry-at : tie.Need-cast-entry-at Inv-loop μ-loop
+cast-entry-at c = search needs
+
+cast-at : tie.Need-cast-at Inv-loop μ-loop
+cast-at c = search needs
+
+cast-at-2 : tie.Need-cast-at-2 Inv-loop μ-loop
+cast-at-2 c = search needs
 
 pub are-sound-spec : {M : Type 1} → statement M
 are-sound-spec =
@@ -97,15 +105,18 @@ are-sound-spec =
     Inv-loop
     μ-loop
     returns
-    entry-in-requires
+    cast-entry-at
+    entry-at-requires
     can-begin-requires
     returns-2
     add-at
+    cast-at
     sub-left
     loop-holds
-    entry-in-requires-2
+    entry-at-requires-2
     can-follow-requires
     returns-3
+    cast-at-2
     add-at-2
     sub-left-2
     loop-less

@@ -27,4 +27,10 @@ returns-3 c =
 
 pub fresh-spec : {M : Type 1} → statement M
 fresh-spec =
-    tie.close (tie.spec returns returns-2 clear-requires write-header-requires same-length returns-3)
+    tie.close (tie.spec
+    returns
+    returns-2
+    clear-requires
+    write-header-requires
+    same-length
+    returns-3)

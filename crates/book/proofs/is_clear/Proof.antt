@@ -6,7 +6,7 @@ use native.Mathlib.Omega.{arith}
 use borrow.Author.Needs.{needs}
 use lib.ListN.{length, drop}
 use Rattle.book.specs.Soundness.{allZero}
-use Rattle.book.proofs.Rows.{not-zero, one-zero, all-seen}
+use Rattle.book.proofs.SoundRows.{not-zero, one-zero, all-seen}
 use Rattle.book.proofs.is_clear.Statement.{statement}
 use Rattle.book.proofs.is_clear.Tie as tie
 

@@ -6,7 +6,7 @@ use borrow.Author.Needs.{needs}
 use borrow.Author.Needs.{needs}
 use Rattle.book.proofs.is_headed.Statement.{statement}
 use Rattle.book.proofs.is_headed.Tie as tie
-use Rattle.book.specs.declared.Header.{Header}
+use Rattle.book_words.specs.declared.Header.{Header}
 use Rattle.book.proofs.Rules.{count-over, period-over, received-over, by-latest}
 
 header-of-requires : tie.Need-header-of-requires
@@ -50,4 +50,10 @@ returns-4 c =
 pub is-headed-spec : {M : Type 1} → statement M
 is-headed-spec =
     tie.close
-    (tie.spec header-of-requires entries-held-requires returns returns-2 returns-3 returns-4)
+    (tie.spec
+    header-of-requires
+    entries-held-requires
+    returns
+    returns-2
+    returns-3
+    returns-4)

@@ -5,10 +5,10 @@ use borrow.Author.Needs.{needs}
 use borrow.Author.Tests.{not-true, not-false}
 use Prim.Native.Nat.{ℕ, _+_, _*_}
 use lib.ListN.{drop}
-use Rattle.book.specs.Layout.{headerWords, entryWords, entriesFrom, entriesOf}
+use Rattle.book_words.specs.Layout.{headerWords, entryWords, entriesFrom, entriesOf}
 use Rattle.book.specs.Soundness.{soundEntries, allZero}
 use Rattle.book.proofs.Rules.{too-short, bad-header, bad-entries, by-rest}
-use Rattle.book.proofs.Rows.{of-book}
+use Rattle.book_words.proofs.Rows.{of-book}
 use Rattle.book.proofs.Headers.{Headed, headed}
 use Rattle.book.proofs.is_sound.Statement.{statement}
 use Rattle.book.proofs.is_sound.Tie as tie
@@ -32,7 +32,7 @@ counted-requires : tie.Need-counted-requires
 counted-requires c κs = search needs
 
 are-sound-requires : tie.Need-are-sound-requires
-are-sound-requires c κs = omega (arith, head (c .before) .room, c .counted .ensures)
+are-sound-requires c κs = omega (arith, head (c .before) .count-most, c .counted .ensures)
 
 -- the entries are as many as the header counts
 as-counted : (c : tie.After-counted) →

@@ -7,7 +7,7 @@ use borrow.Author.Needs.{needs}
 use lib.ListN.{length}
 use Rattle.listing.proofs.count_lines.Statement.{statement}
 use Rattle.listing.proofs.count_lines.Tie as tie
-use Rattle.book.specs.Layout.{mostWords, entryWords, entriesFrom, entriesOf}
+use Rattle.book_words.specs.Layout.{mostWords, entryWords, entriesFrom, entriesOf}
 use Rattle.book.proofs.Headers.{sound-book, sound-count}
 use Rattle.listing.specs.List.{standingLines}
 use Rattle.listing.proofs.Passing.{passed}

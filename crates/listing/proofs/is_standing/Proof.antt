@@ -5,7 +5,7 @@ use mathlib.Core.Bool.{not}
 use borrow.Author.Needs.{needs}
 use Rattle.listing.proofs.is_standing.Statement.{statement}
 use Rattle.listing.proofs.is_standing.Tie as tie
-use Rattle.book.proofs.Rows.{rows-none}
+use Rattle.book_words.proofs.Rows.{rows-none}
 use Rattle.dial_code.proofs.Tests.{positive}
 use Rattle.listing.proofs.Turns.{after-day, closed, unless-replaced, none-next, other-next, same-next, row}
 

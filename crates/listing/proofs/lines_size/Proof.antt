@@ -11,7 +11,7 @@ use Rattle.listing.proofs.lines_size.Tie as tie
 use Rattle.notice_writing.specs.Layout.{encodeLines}
 use Rattle.notice_line.specs.declared.Line.{Line}
 use Rattle.notice_writing.proofs.LayoutLaws.{lines-nil}
-use Rattle.book.specs.Layout.{mostWords, entryWords, entriesFrom, entriesOf}
+use Rattle.book_words.specs.Layout.{mostWords, entryWords, entriesFrom, entriesOf}
 use Rattle.book.proofs.Headers.{sound-book, sound-count}
 use Rattle.listing.specs.List.{standingLines}
 use Rattle.listing.proofs.Passing.{passed}

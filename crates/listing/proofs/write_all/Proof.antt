@@ -8,7 +8,7 @@ use Rattle.listing.proofs.write_all.Statement.{statement}
 use Rattle.listing.proofs.write_all.Tie as tie
 use Rattle.listing.proofs.Turns.{up-to, some-room, small-enough}
 use Rattle.listing.proofs.Answering.{header-written, lines-fit, all-written}
-use Rattle.book.specs.Layout.{entriesOf}
+use Rattle.book_words.specs.Layout.{entriesOf}
 use Rattle.listing.specs.List.{standingLines}
 use lib.Seq.{sets}
 use Rattle.varint_writing.specs.declared.Written.the-variants.{UpTo}

@@ -10,7 +10,7 @@ use Prim.Native.Nat.{_+_}
 use lib.ListN.{length}
 use Rattle.varint_writing.specs.declared.Written.the-variants.{UpTo}
 use Rattle.notice_writing.specs.Layout.{encodeLines}
-use Rattle.book.specs.Layout.{entriesFrom}
+use Rattle.book_words.specs.Layout.{entriesFrom}
 use Rattle.listing.specs.Pass.{addedBy}
 use mathlib.Core.Path.{_≡_}
 

@@ -9,7 +9,7 @@ use lib.ListN.{length}
 use Rattle.listing.proofs.write_lines.Statement.{statement}
 use Rattle.listing.proofs.write_lines.Tie as tie
 use Rattle.notice_writing.specs.Layout.{encodeLines}
-use Rattle.book.specs.Layout.{mostWords, entryWords, entriesFrom, entriesOf}
+use Rattle.book_words.specs.Layout.{mostWords, entryWords, entriesFrom, entriesOf}
 use Rattle.book.proofs.Headers.{sound-book, sound-count}
 use Rattle.listing.specs.List.{standingLines}
 use Rattle.listing.proofs.Passing.{passed}

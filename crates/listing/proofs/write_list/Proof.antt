@@ -13,7 +13,7 @@ use Rattle.book.proofs.Usable.{usable-sound}
 use borrow.Author.Tests.{not-true, not-false, leb-true, leb-false}
 use Rattle.listing.proofs.Answering.{no-book, no-day, no-line, no-room, has-room, refused, done}
 use Rattle.dial_code.proofs.Tests.{positive}
-use Rattle.book.specs.Layout.{entriesOf}
+use Rattle.book_words.specs.Layout.{entriesOf}
 use Rattle.listing.specs.List.{standingLines, listOf}
 
 -- past the first test the book can be used, past the second the day is one on which a notice can be received

@@ -6,7 +6,7 @@ use Prim.Native.Nat.{_-_, _*_, _/_, _^_, _≤_, min}
 use native.Mathlib.Omega.{arith}
 use borrow.Author.Needs.{needs}
 use Rattle.dial_code.proofs.CountedKeys.{next-weight, weight-most}
-use Rattle.book.specs.Layout.{mostEntries}
+use Rattle.book_words.specs.Layout.{mostEntries}
 use Rattle.lookup.specs.Search.{tried, bestFound}
 use Rattle.lookup.specs.Match.{standing}
 use Rattle.lookup.proofs.Halving.{found-few}

@@ -2,7 +2,7 @@
 -- Assumes nothing.
 use mathlib.Core.Path.{sym}
 use borrow.Author.Needs.{needs}
-use Rattle.book.proofs.Rows.{rows-none}
+use Rattle.book_words.proofs.Rows.{rows-none}
 use Rattle.merge.proofs.PassLaws.{next-row, goes-none, goes-apart, goes-along}
 use Rattle.dial_code.proofs.Tests.{positive}
 use Rattle.merge.proofs.goes_on.Statement.{statement}

@@ -5,9 +5,9 @@ use mathlib.Core.List.{[], _∷_}
 use Prim.Native.Nat.{_+_, _-_, _*_, _≤_}
 use native.Mathlib.Omega.{arith}
 use borrow.Author.Needs.{needs}
-use Rattle.book.specs.Layout.{entryWords, mostWords, entriesFrom}
-use Rattle.book.proofs.Rows.{rows-none}
-use Rattle.merge.specs.Passes.{keptOf, statusOf, restAfter}
+use Rattle.book_words.specs.Layout.{entryWords, mostWords, entriesFrom}
+use Rattle.book_words.proofs.Rows.{rows-none}
+use Rattle.merge_rule.specs.Passes.{keptOf, statusOf, restAfter}
 use Rattle.merge.proofs.Stores.{Writing, writing-all, writing-same, writing-on}
 use Rattle.merge.proofs.Stores.{writing-counted, writing-end}
 use Rattle.merge.proofs.PassLaws.{next-row, KeptTurn, kept-on, kept-off, kept-stops, kept-none}

@@ -4,8 +4,8 @@ use mathlib.Core.Path.{ap}
 use Prim.Native.Nat.{_+_, _*_, _≤_}
 use native.Mathlib.Omega.{arith}
 use borrow.Author.Needs.{needs}
-use Rattle.book.specs.Layout.{entryWords, mostWords}
-use Rattle.book.specs.declared.Header.{Header}
+use Rattle.book_words.specs.Layout.{entryWords, mostWords}
+use Rattle.book_words.specs.declared.Header.{Header}
 use Rattle.book.proofs.Headers.{count-room}
 use Rattle.merge.specs.Lines.{linesAt}
 use Rattle.merge.specs.Merge.{mostMerged}

@@ -2,8 +2,8 @@
 -- Assumes nothing.
 use native.Mathlib.Omega.{arith}
 use borrow.Author.Needs.{needs}
-use Rattle.book.specs.Layout.{entriesFrom}
-use Rattle.merge.specs.Passes.{gapBelow, restFrom, listedGroup, lineEntries, lineRest}
+use Rattle.book_words.specs.Layout.{entriesFrom}
+use Rattle.merge_rule.specs.Passes.{gapBelow, restFrom, listedGroup, lineEntries, lineRest}
 use Rattle.effect.specs.Closings.{closesBy}
 use Rattle.merge.proofs.Stores.{puts-on}
 use Rattle.merge.proofs.PassLaws.{passed-on, gap-bound}

@@ -5,9 +5,9 @@ use mathlib.Core.List.{[], _∷_, _++_}
 use native.Mathlib.Omega.{arith}
 use borrow.Author.Needs.{needs}
 use lib.ListN.{length-append}
-use Rattle.book.specs.Layout.{entriesFrom}
-use Rattle.book.proofs.Rows.{length-rows}
-use Rattle.merge.specs.Passes.{keptOf, listedGroup}
+use Rattle.book_words.specs.Layout.{entriesFrom}
+use Rattle.book_words.proofs.Rows.{length-rows}
+use Rattle.merge_rule.specs.Passes.{keptOf, listedGroup}
 use Rattle.merge.proofs.Stores.{puts-on}
 use Rattle.merge.proofs.PassLaws.{listed-same, listed-new, kept-most}
 use Rattle.merge.proofs.pass_listed.Statement.{statement}

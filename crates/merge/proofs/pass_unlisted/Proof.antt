@@ -7,9 +7,9 @@ use Prim.Native.Nat.{_+_, _-_, _*_, _≤_}
 use native.Mathlib.Omega.{arith}
 use borrow.Author.Needs.{needs}
 use borrow.Author.Tests.{not-false}
-use Rattle.book.specs.Layout.{entryWords, mostWords, entriesFrom}
-use Rattle.book.proofs.Rows.{rows-none}
-use Rattle.merge.specs.Passes.{gapBelow, restFrom, unlistedAs}
+use Rattle.book_words.specs.Layout.{entryWords, mostWords, entriesFrom}
+use Rattle.book_words.proofs.Rows.{rows-none}
+use Rattle.merge_rule.specs.Passes.{gapBelow, restFrom, unlistedAs}
 use Rattle.effect.specs.Closings.{closesBy}
 use Rattle.effect.proofs.ClosingLaws.{ClosedAlike, anyway-alike, range-alike, range-closed}
 use Rattle.merge.proofs.Stores.{Writing, writing-all, writing-on, writing-counted, writing-end}

@@ -6,8 +6,8 @@ use Prim.Native.Nat.{_+_, _*_}
 use native.Mathlib.Omega.{arith}
 use borrow.Author.Needs.{needs}
 use borrow.Author.Tests.{not-true, not-false}
-use Rattle.book.specs.Layout.{headerWords, entryWords, entry, entriesFrom}
-use Rattle.merge.specs.Passes.{unlistedAs}
+use Rattle.book_words.specs.Layout.{headerWords, entryWords, entry, entriesFrom}
+use Rattle.merge_rule.specs.Passes.{unlistedAs}
 use Rattle.merge.proofs.Stores.{stored-nil, no-words, puts-on}
 use Rattle.merge.proofs.PassLaws.{stays, goes, stays-closed, stays-on, closes-after}
 use Rattle.merge.proofs.put_unlisted.Statement.{statement}

@@ -4,8 +4,8 @@ use Prim.Native.Nat.{_≤_}
 use native.Mathlib.Omega.{arith}
 use borrow.Author.Needs.{needs}
 use borrow.Author.Tests.{not-true, not-false}
-use Rattle.book.specs.Layout.{periodOf, receivedOf, latestOf}
-use Rattle.book.specs.declared.Header.{Header}
+use Rattle.book_words.specs.Layout.{periodOf, receivedOf, latestOf}
+use Rattle.book_words.specs.declared.Header.{Header}
 use Rattle.book.proofs.Headers.{sound-book}
 use Rattle.update.specs.Plans.{planOf}
 use Rattle.update.proofs.Answering.{ready, refuses-earlier, refuses-full, fill-room, accepts}

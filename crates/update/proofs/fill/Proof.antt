@@ -4,9 +4,9 @@ use Prim.Native.Nat.{_+_, _*_, _≤_}
 use native.Mathlib.Omega.{arith}
 use borrow.Author.Needs.{needs}
 use lib.ListN.{length}
-use Rattle.book.specs.Layout.{headerWords, entryWords, header, latestOf}
-use Rattle.book.specs.declared.Header.{Header}
-use Rattle.book.proofs.NewBook.{book-made}
+use Rattle.book_words.specs.Layout.{headerWords, entryWords, header, latestOf}
+use Rattle.book_words.specs.declared.Header.{Header}
+use Rattle.book_words.proofs.NewBook.{book-made}
 use Rattle.effect.specs.Lines.{foundIn, latestBy}
 use Rattle.merge.specs.Lines.{linesAt}
 use Rattle.merge.specs.Merge.{mergedBy}

@@ -5,12 +5,12 @@ use borrow.Author.Needs.{needs}
 use borrow.Author.Tests.{le-leb}
 use lib.Dec.{leb}
 use lib.ListN.{length}
-use Rattle.book.specs.Layout.{held}
+use Rattle.book_words.specs.Layout.{held}
 use Rattle.book.proofs.Headers.{count-room}
 use Rattle.merge.specs.Lines.{linesAt}
 use Rattle.merge.specs.Merge.{mergedBy}
 use Rattle.merge.proofs.LinesAgain.{length-lines}
-use Rattle.merge.proofs.MergedLength.{merged-most}
+use Rattle.merge.proofs.MergedMost.{merged-most}
 use Rattle.merge.proofs.Merging.{answered, counted-only}
 use Rattle.update.proofs.has_room.Statement.{statement}
 use Rattle.update.proofs.has_room.Tie as tie

@@ -1,0 +1,2 @@
+-- The rules of rating a batch of calls.
+pub mod Batch

@@ -1,0 +1,2 @@
+-- The rules of a book's words.
+pub mod Layout

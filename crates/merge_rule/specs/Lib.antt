@@ -1,0 +1,2 @@
+-- The entries of a new book, part by part.
+pub mod Passes
