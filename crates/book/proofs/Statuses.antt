@@ -1,7 +1,7 @@
 -- The status of a code on a day in a list of entries: which entry gives it, and which entries change nothing. Assumes nothing.
 use mathlib.Core.Path.{_≡_, refl, ap, sym, _∙_}
 use mathlib.Core.Bool.{Bool, true, false, cond, _&&_, false≢true}
-use mathlib.Core.List.{List, [], _∷_}
+use mathlib.Core.List.{List, [], _∷_, _++_}
 use Prim.Native.Nat.{ℕ, zero, suc, _≤_, _<_}
 use native.Mathlib.Omega.{arith}
 use borrow.Author.Tests.{le-leb, lt-leb, eq-eqb, ne-eqb}
@@ -19,6 +19,12 @@ use Rattle.book.specs.Status.{statusFrom, statusIn, heldOffer, offerIn}
 use Rattle.book_words.specs.declared.Entry.{Entry}
 use Rattle.book_words.proofs.Rows.{entryIn}
 use Rattle.book.proofs.SoundLists.{After, same, next, SoundFrom, Sound, each-allowed, keys-rise}
+
+-- The status of a code in entries one after the other.
+pub status-append : (w : ℕ) (es fs : List Entry) (k d : ℕ) → statusFrom w (es ++ fs) k d ≡ statusFrom (statusFrom w es k d) fs k d
+unfolding statusFrom
+status-append w [] fs k d = refl
+status-append w (e ∷ es) fs k d = status-append _ es fs k d
 
 -- A code and a day, x and d, that stand before a key and a day, k and n.
 pub data Before (k n x d : ℕ) : Type 0 where

@@ -15,14 +15,9 @@ use Rattle.book_words.specs.Layout.{entry}
 use Rattle.book.specs.Soundness.{isOfferWord, soundEntries}
 use Rattle.book.specs.Status.{statusFrom, statusIn}
 use Rattle.book_words.specs.declared.Entry.{Entry}
-use Rattle.book.proofs.Statuses.{gives, other-key, later-day}
+use Rattle.book.proofs.Statuses.{gives, other-key, later-day, status-append}
 use Rattle.book.proofs.SoundLists.{Allowed, After, same, next, SoundFrom, Sound, from-sound}
 use Rattle.history.specs.ChangeDays.{changesFrom, codeChanges, keyChanges, changeDays}
-
-pub status-append : (w : ℕ) (es fs : List Entry) (k d : ℕ) → statusFrom w (es ++ fs) k d ≡ statusFrom (statusFrom w es k d) fs k d
-unfolding statusFrom
-status-append w [] fs k d = refl
-status-append w (e ∷ es) fs k d = status-append _ es fs k d
 
 module _ (word : ℕ → ℕ → ℕ) (k : ℕ) where
   -- whether the head of the change days is an entry or not, an equation about both cases

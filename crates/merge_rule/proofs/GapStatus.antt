@@ -12,7 +12,7 @@ use Rattle.book.specs.Status.{statusFrom}
 use Rattle.book_words.specs.declared.Entry.{Entry}
 use Rattle.book.proofs.SoundLists.{SoundFrom}
 use Rattle.book.proofs.Statuses.{smaller, gives, other-key, later-day, stands-later, untouched}
-use Rattle.history.proofs.ChangeLaws.{status-append}
+use Rattle.book.proofs.Statuses.{status-append}
 use Rattle.merge_rule.specs.Passes.{goesOn, unlistedOne, gapBelow}
 use Rattle.merge_rule.proofs.PassCases.{unlisted-cases, gap-cases}
 use Rattle.merge_rule.proofs.PassKeys.{Keys, Apart, Without, keys-unlisted}

@@ -12,7 +12,7 @@ use Rattle.book.specs.Soundness.{soundEntries}
 use Rattle.book.specs.Status.{statusFrom, statusIn}
 use Rattle.book_words.specs.declared.Entry.{Entry}
 use Rattle.book.proofs.SoundLists.{to-sound}
-use Rattle.history.proofs.ChangeLaws.{status-append}
+use Rattle.book.proofs.Statuses.{status-append}
 use Rattle.merge_rule.specs.Passes.{gapBelow, restFrom, listedGroup, merged}
 use Rattle.merge_rule.proofs.PassCases.{in-parts}
 use Rattle.merge_rule.proofs.PassKeys.{Keys, Apart, Without}
