@@ -17,7 +17,6 @@ use Rattle.book.proofs.Rules.{header-test, sound-test, by-latest, by-re
 
 -- A sound header: the count within the entries held, so that there are words for as many entries, and the ranges.
 pub record Headed (ws : List ℕ) : Type 0 where
-  pub count-held : countOf ws ≤ held (length ws)
   pub count-most : countOf ws ≤ mostEntries
   pub room : headerWords + countOf ws * entryWords ≤ length ws
   pub period-most : periodOf ws ≤ mostPeriod
@@ -33,7 +32,6 @@ headed ws l h =
     let n = leb-true (countOf ws) (held (length ws)) (a .0) in
     let f = held-fits (countOf ws) (length ws) l n in
     record {
-      count-held = n;
       count-most = f .0;
       room = f .1;
       period-most = leb-true (periodOf ws) mostPeriod (b .0);

@@ -44,8 +44,8 @@ closedRange p marks k = record { keys = stretchOf k; closed = closesBy p marks k
 plan : ℕ → ℕ → Plan
 plan kind country = record { kind = kind; country = country; received = 100; floor = 107; noticed = false; closing = 107 }
 
--- 44 in a full notice, in a partial one with 2 marked and with 0 marked, in an update, in replacements of 44 and of 7; a partial
--- notice and a word with no country
+-- 44 in a full notice; 7 in a partial one with 7 marked and with 0 and 1 marked; 44 in an update and in replacements of 44 and of 7;
+-- a word with no country in a partial notice
 closings :
     closesBy (plan full 0) [] (key (4 ∷ 4 ∷ []))
     ∷ closesBy (plan partial 0) (0 ∷ 0 ∷ 0 ∷ 0 ∷ 0 ∷ 0 ∷ 0 ∷ 1 ∷ []) (key (7 ∷ []))

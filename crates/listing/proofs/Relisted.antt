@@ -24,15 +24,14 @@ use Rattle.book.specs.Answers.{freshRefusal, freshBook, bookRefusal}
 use Rattle.lookup.specs.Lookup.{lookup}
 use Rattle.lookup.specs.declared.Lookup.the-variants.{Found}
 use Rattle.lookup.proofs.Lookups.{answered}
-use Rattle.history.specs.ChangeDays.{changeDays}
-use Rattle.history.specs.Machine.{known, words, answers, answerOf}
+use Rattle.history.specs.Machine.{answers, answerOf}
 use Rattle.history.specs.Applying.{applyRefusal, applied}
 use Rattle.history.specs.Claim.{Apply, withNotice, accepts, acceptedBy, current, bookLeft}
 use Rattle.history.proofs.Theorem.{fresh-linked, same-answer, claim}
 use Rattle.history.proofs.Corollaries.{taken-exactly}
 use Rattle.listing.specs.List.{standingLines, standingNotice}
 use Rattle.listing.proofs.ReadsBack.{list-reads-back}
-use Rattle.listing.proofs.Relisting.{status-after, entriesOn, length-on, changes-after}
+use Rattle.listing.proofs.Relisting.{status-after, length-on, changes-after}
 
 -- where every code is closed, so is every number
 all-closed : (ds : List ℕ) (n : ℕ) → longest (λ k. Closed) ds n ≡ answer 0 Closed
@@ -97,17 +96,6 @@ module _
         (eq-eqb (answers 0 [] (encodeNotice list) (length new)) 0
         (sym (same-answer (freshBook start 0) 0 [] (fresh-linked start 0 f) (encodeNotice list) (length new)) ∙ relisted-accepted))
         reads
-
-    -- Its entries are the list's lines, all on the list's day.
-    pub relisted-entries :
-        entriesOf (applied (freshBook start 0) (encodeNotice (standingNotice (entriesOf ws) (day .0))) new)
-        ≡ entriesOn (day .0) (standingLines (entriesOf ws) (day .0))
-    unfolding list
-    relisted-entries =
-        ap entriesOf (sym left-is)
-        ∙ claim start 0 f (list-apply ∷ []) .entries
-        ∙ ap (λ (ns : List Notice). changeDays (words (known 0 ns))) taken-is
-        ∙ changes-after ws (day .0) b r some
 
     -- Every lookup, on every day: from the list's day on what the old book gave on that day, before it closed.
     pub relisted-lookups :

@@ -65,15 +65,6 @@ module _ (day : ℕ) (e : Entry) (fs : List Entry) where
     unfolding unlistedAs closedOne
     closes-after h o g = rw (q, lt-ltb _ _ h, ne-eqb _ _ o, g)
 
-  pub at-least-one : (t : Bool) → e .day < day → 1 ≤ length (unlistedAs t day e fs)
-  unfolding unlistedAs closedOne
-  at-least-one false h = omega arith
-  at-least-one true h = rw (lt-ltb _ _ h) (go (eqb (e .offer) 0 || goesOn day e fs))
-    where
-      go : (u : Bool) → 1 ≤ length (cond u (e ∷ []) (e ∷ entry (e .key) day 0 ∷ []))
-      go true = omega arith
-      go false = omega arith
-
   pub at-most-two : (t : Bool) → length (unlistedAs t day e fs) ≤ 2
   unfolding unlistedAs closedOne
   at-most-two false = omega arith
@@ -184,18 +175,6 @@ module _ (c : Entry) (es : List Entry) {status : ℕ} (q : status ≡ statusOf c
   pub listed-new : (status ≡ c .offer → ⊥) → listedGroup c 0 es ≡ keptOf c es ++ (c ∷ [])
   unfolding placed
   listed-new h = listed-split c 0 es ∙ rw (ne-eqb (c .offer) (statusOf c 0 es) (λ s. h (q ∙ sym s)))
-
-pub length-listed :
-    (c : Entry) (status : ℕ) (es : List Entry)
-    → length (listedGroup c status es) ≡ length (keptOf c es) + length (placed c (statusOf c status es))
-length-listed c status es = ap length (listed-split c status es) ∙ length-append (keptOf c es) (placed c (statusOf c status es))
-
-pub length-line :
-    (c : Entry) (closes : ℕ → Bool) (day : ℕ) (es : List Entry)
-    → length (lineEntries c closes day es)
-    ≡ length (gapBelow (c .key) closes day es) + length (listedGroup c 0 (restFrom (c .key) es))
-unfolding lineEntries
-length-line c closes day es = length-append (gapBelow (c .key) closes day es) (listedGroup c 0 (restFrom (c .key) es))
 
 -- One pass after another.
 pub passed-on :

@@ -1,4 +1,4 @@
--- `notice::offer_of` meets its contract: a return for each case of the price. Assumes nothing.
+-- `notice_line::offer_of` meets its contract: a return for each case of the price. Assumes nothing.
 use mathlib.Core.Path.{ap, sym, _∙_}
 use borrow.Author.Needs.{needs}
 use Rattle.notice_line.specs.LineRule.{offered}

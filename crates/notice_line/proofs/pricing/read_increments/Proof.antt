@@ -1,4 +1,4 @@
--- `notice::read_increments` meets its contract: increments that are read are at most 255, so both fit a byte. Assumes nothing.
+-- `notice_line::read_increments` meets its contract: increments that are read are at most 255, so both fit a byte. Assumes nothing.
 use mathlib.Core.Path.{_≡_, ap, sym, _∙_}
 use borrow.Author.Needs.{needs}
 use Rattle.varint.proofs.Links.{on-value, on-refused}

@@ -1,4 +1,4 @@
--- `notice::read_rate` meets its contract. Assumes nothing.
+-- `notice_line::read_rate` meets its contract. Assumes nothing.
 use mathlib.Core.Path.{_≡_, sym, _∙_}
 use borrow.Author.Needs.{needs}
 use Rattle.varint.proofs.Links.{on-value, on-refused}

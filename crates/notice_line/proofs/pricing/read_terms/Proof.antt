@@ -1,4 +1,4 @@
--- `notice::read_terms` meets its contract: a return for each status. Assumes nothing.
+-- `notice_line::read_terms` meets its contract: a return for each status. Assumes nothing.
 use mathlib.Core.Path.{_≡_, sym, _∙_}
 use borrow.Author.Needs.{needs}
 use borrow.Author.Tests.{eq-eqb, ne-eqb}
