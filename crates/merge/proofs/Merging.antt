@@ -21,13 +21,13 @@ use Rattle.effect.specs.Lines.{foundIn, effectiveBy, changeBy, changesBy, lates
 use Rattle.effect.specs.Closings.{closesBy}
 use Rattle.effect.specs.declared.Plan.{Plan}
 use Rattle.merge_rule.specs.Passes.{gapBelow, lineEntries, lineRest, merged}
+use Rattle.merge_rule.proofs.MergedLength.{line-length}
 use Rattle.merge.specs.Lines.{linesAt}
 use Rattle.merge.specs.Merge.{mostMerged, stored, mergedBy, mergedAnswer, mergedLeaves, Passed}
 use Rattle.merge.specs.declared.Merged.{Merged}
 use Rattle.merge.specs.declared.Place.{Place}
 use Rattle.merge.proofs.LinesAgain.{lines-none-left, line-read, line-refused}
 use Rattle.merge.proofs.Stores.{Writing, writing-all, writing-on, writing-counted, writing-end}
-use Rattle.merge.proofs.PassLaws.{line-most}
 
 -- The old entries that are left.
 abbrev pub leftAt : List ℕ → Place → List Entry
@@ -94,7 +94,7 @@ pass-most old from to c closes day left p h m =
     omega (
       arith,
       p .counted,
-      line-most c closes day (leftAt old from),
+      line-length c closes day (leftAt old from),
       length-rows old (from .at) (from .left),
       length-rows old (to .at) (to .left),
       ap length (p .left),

@@ -11,7 +11,8 @@ use Rattle.book_words.specs.Layout.{entryWords, entry, entryAt, entriesFrom}
 use Rattle.book_words.specs.declared.Entry.{Entry}
 use Rattle.book_words.proofs.Rows.{rows-step, length-rows}
 use Rattle.merge_rule.specs.Passes.{goesOn, closedOne, unlistedAs, gapBelow, restFrom, placed, listedGroup}
-use Rattle.merge_rule.specs.Passes.{keptOf, statusOf, restAfter, lineEntries, lineRest}
+use Rattle.merge_rule.specs.Passes.{keptOf, statusOf, restAfter}
+use Rattle.merge_rule.proofs.MergedLength.{gap-length}
 use Rattle.merge.specs.Merge.{Passed}
 use Rattle.merge.specs.declared.Place.{Place}
 
@@ -190,28 +191,7 @@ passed-on {xs = xs} {ys = ys} p q =
       left = q .left;
     }
 
--- How many entries there are after a pass.
-pub gap-most :
-    (k : ℕ) (closes : ℕ → Bool) (day : ℕ) (es : List Entry)
-    → length (gapBelow k closes day es) + 2 * length (restFrom k es) ≤ 2 * length es
-unfolding gapBelow restFrom
-gap-most k closes day [] = omega arith
-gap-most k closes day (e ∷ es) = go (ltb (e .key) k) (gap-most k closes day es)
-  where
-    go :
-        (t : Bool)
-        → length (gapBelow k closes day es) + 2 * length (restFrom k es) ≤ 2 * length es
-        → length (cond t (unlistedAs (closes (e .key)) day e es ++ gapBelow k closes day es) [])
-        + 2 * length (cond t (restFrom k es) (e ∷ es))
-        ≤ 2 * length (e ∷ es)
-    go true h =
-        omega (
-          arith,
-          length-append (unlistedAs (closes (e .key)) day e es) (gapBelow k closes day es),
-          at-most-two day e es (closes (e .key)),
-        )
-    go false h = omega arith
-
+-- How many entries of a code are kept.
 pub kept-most : (c : Entry) (es : List Entry) → length (keptOf c es) + length (restAfter (c .key) es) ≤ length es
 unfolding keptOf restAfter
 kept-most c [] = omega arith
@@ -226,29 +206,6 @@ kept-most c (e ∷ es) = go (eqb (e .key) (c .key)) (ltb (e .day) (c .day)) (kep
     go true false h = omega arith
     go false u h = omega arith
 
-pub placed-most : (c : Entry) (status : ℕ) → length (placed c status) ≤ 1
-unfolding placed
-placed-most c status = go (eqb (c .offer) status)
-  where
-    go : (t : Bool) → length (cond t [] (c ∷ [])) ≤ 1
-    go true = omega arith
-    go false = omega arith
-
-pub line-most :
-    (c : Entry) (closes : ℕ → Bool) (day : ℕ) (es : List Entry)
-    → length (lineEntries c closes day es) + 2 * length (lineRest c es) ≤ 2 * length es + 1
-unfolding lineRest
-line-most c closes day es =
-    let rest = restFrom (c .key) es in
-    omega (
-      arith,
-      length-line c closes day es,
-      gap-most (c .key) closes day es,
-      length-listed c 0 rest,
-      placed-most c (statusOf c 0 rest),
-      kept-most c rest,
-    )
-
 -- At most two entries for each old one, and one for each line.
 module _ (ws : List ℕ) (from to : Place) where
   pub gap-bound :
@@ -260,7 +217,7 @@ module _ (ws : List ℕ) (from to : Place) where
       let es = entriesFrom ws (from .at) (from .left) in
       omega (
         arith,
-        gap-most k closes day es,
+        gap-length closes day k es,
         length-rows ws (from .at) (from .left),
         length-rows ws (to .at) (to .left),
         ap length (p .left),

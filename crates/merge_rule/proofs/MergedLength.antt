@@ -6,7 +6,7 @@ use Prim.Native.Nat.{ℕ, _+_, _*_, _≤_}
 use native.Mathlib.Omega.{arith}
 use lib.ListN.{length, length-append}
 use Rattle.book_words.specs.declared.Entry.{Entry}
-use Rattle.merge_rule.specs.Passes.{unlistedOne, gapBelow, restFrom, placed, listedGroup, restAfter, merged}
+use Rattle.merge_rule.specs.Passes.{unlistedOne, gapBelow, restFrom, placed, listedGroup, restAfter, lineEntries, lineRest, merged}
 use Rattle.merge_rule.proofs.PassCases.{in-parts, unlisted-cases, gap-cases, from-cases, after-cases, placed-cases, group-cases}
 
 module _ (closes : ℕ → Bool) (day : ℕ) where
@@ -19,7 +19,7 @@ module _ (closes : ℕ → Bool) (day : ℕ) where
       (λ c l z g. omega arith)
       (λ c l. omega arith)
 
-  gap-length : (k : ℕ) (es : List Entry) → length (gapBelow k closes day es) + 2 * length (restFrom k es) ≤ 2 * length es
+  pub gap-length : (k : ℕ) (es : List Entry) → length (gapBelow k closes day es) + 2 * length (restFrom k es) ≤ 2 * length es
   unfolding gapBelow restFrom
   gap-length k [] = omega arith
   gap-length k (e ∷ es) =
@@ -56,6 +56,20 @@ group-length c status (e ∷ es) =
     (λ k l. absurd (n k))
     (λ k l. absurd (n k))
     (λ m. omega (arith, placed-length c status)))
+
+-- A line gives at most one more than its entries.
+pub line-length :
+    (c : Entry) (closes : ℕ → Bool) (day : ℕ) (es : List Entry)
+    → length (lineEntries c closes day es) + 2 * length (lineRest c es) ≤ 1 + 2 * length es
+unfolding lineEntries lineRest
+line-length c closes day es =
+    let from = restFrom (c .key) es in
+    omega (
+      arith,
+      length-append (gapBelow (c .key) closes day es) (listedGroup c 0 from),
+      gap-length closes day (c .key) es,
+      group-length c 0 from,
+    )
 
 -- An entry gives at most two, a line at most one.
 pub merged-length :
