@@ -158,7 +158,7 @@ static void time_writing(size_t entries)
     same_list(book, book_len, TODAY, sizeof list);
     report("list", entries, measure(library_list, plain_list_one));
     notice_len = make_first_notice(notice, entries);
-    rate_book_fresh(book, book_len, PERIOD);
+    accepted("a fresh book", rate_book_fresh(book, book_len, PERIOD));
     time_apply("first", entries);
 }
 

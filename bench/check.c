@@ -247,7 +247,10 @@ void check_random(unsigned histories)
         size_t len = 4 + random_below(200);
         uint64_t near = random_below(random_below(8) == 0 ? 60000 : 300);
         same_fresh(random_below(8), random_below(10) == 0 ? 360 + random_below(10) : random_below(20));
-        rate_book_fresh(book, len, random_below(20) == 0 ? 365 : random_below(15));
+        if (rate_book_fresh(book, len, random_below(20) == 0 ? 365 : random_below(15)) != RATE_BOOK_NOT_REFUSED) {
+            fprintf(stderr, "a fresh book is refused\n");
+            exit(1);
+        }
         for (unsigned i = 0; i < 8; i++) {
             size_t new_len = random_below(5) == 0 ? random_below(100) : 200 + random_below(50);
             size_t n = random_notice(bytes, near);

@@ -66,6 +66,7 @@ fn line_of(e: Entry) -> Line
             offer,
             listed: 0,
         },
+        // No entry of a sound book has such a word.
         Stored::Invalid => Line {
             key: e.key,
             offer: Offer::Closed,
@@ -114,6 +115,7 @@ fn write_at(
     }
     match notice_writing::write_line(out, from, line_of(e)) {
         Written::UpTo(end) => end,
+        // The caller has seen to the room, and every field of a line has an encoding.
         Written::NoRoom => from,
         Written::TooLarge => from,
     }
@@ -196,6 +198,7 @@ fn write_all(words: &[u64], day: Day, lines: usize, out: &mut [u8]) -> usize
 {
     match notice_writing::write_header(out, 0, notice::FULL, day.0, 0, lines as u64) {
         Written::UpTo(at) => write_lines(words, day.0, out, at),
+        // The caller has seen to the room, and every field has an encoding.
         Written::NoRoom => 0,
         Written::TooLarge => 0,
     }
