@@ -53,6 +53,19 @@ pub fn entry_at(words: &[u64], at: u32) -> Entry
     }
 }
 
+// The key of the entry that starts at a place, and its day: a search needs no more of most entries.
+pub fn key_at(words: &[u64], at: u32) -> u64
+    ensures { λ r. ⌜ r ≡ entryAt (now (words .entry)) at .key ⌝ }
+{
+    word_at(words, at as usize)
+}
+
+pub fn day_at(words: &[u64], at: u32) -> u64
+    ensures { λ r. ⌜ r ≡ entryAt (now (words .entry)) at .day ⌝ }
+{
+    word_at(words, at as usize + 1)
+}
+
 // Sets the word at a place, where there is one.
 fn put_word(words: &mut [u64], at: usize, word: u64)
     ensures { λ _. ⌜ now (words .exit) ≡ sets (now (words .entry)) at (word ∷ []) ⌝ }

@@ -2,7 +2,7 @@
 ghost use mathlib.Core.Path.{_≡_};
 ghost use Prim.Native.Nat.{_-_, _≤_, min};
 ghost use Rattle.rate.specs.OfferWord.{offerOf};
-ghost use Rattle.book_words.specs.Layout.{mostEntries};
+ghost use Rattle.book_words.specs.Layout.{mostEntries, entryAt};
 ghost use Rattle.book.specs.Status.{heldOffer};
 ghost use Rattle.lookup.specs.Match.{isStanding};
 ghost use Rattle.lookup.specs.Search.{notAfter, foundUpTo, lastEntry, ownWord, bestFound};
@@ -24,17 +24,18 @@ pub enum Lookup {
     Refused(u64),
 }
 
-// Whether an entry stands no later than a code and a day.
-fn is_not_after(e: Entry, key: u64, day: u64) -> bool
-    ensures { λ r. ⌜ r ≡ notAfter e key day ⌝ }
+// Whether the entry at a place stands no later than a code and a day. The day is read only of an entry of the code.
+fn is_not_after(words: &[u64], at: u32, key: u64, day: u64) -> bool
+    ensures { λ r. ⌜ r ≡ notAfter (entryAt (now (words .entry)) at) key day ⌝ }
 {
-    if e.key < key {
+    let k = book_words::key_at(words, at);
+    if k < key {
         return true;
     }
-    if key < e.key {
+    if key < k {
         return false;
     }
-    e.day <= day
+    book_words::day_at(words, at) <= day
 }
 
 // How many of the first entries stand no later than a code and a day, found by halving.
@@ -46,11 +47,8 @@ fn entries_up_to(words: &[u64], count: usize, key: u64, day: u64) -> usize
     let mut hi = count;
     while lo < hi {
         let mid = lo + (hi - lo) / 2;
-        let e = book_words::entry_at(
-            words,
-            (book_words::HEADER_WORDS + mid * book_words::ENTRY_WORDS) as u32,
-        );
-        if is_not_after(e, key, day) {
+        let at = (book_words::HEADER_WORDS + mid * book_words::ENTRY_WORDS) as u32;
+        if is_not_after(words, at, key, day) {
             lo = mid + 1;
         } else {
             hi = mid;
