@@ -36,7 +36,8 @@ at-kept : (c : tie.Then2 Inv-loop μ-loop) →
     (entriesFrom (a .old .now) (l .at + entryWords) (l .left - 1))
 at-kept c =
     let p = c .before .before .before .before .before .before in
-    kept-on _ _ _ _ (next-row _ _ _ (p .before .loop-test .taken) (p .entry-at .ensures))
+    let a = p .before .before .before .before .before .args in
+    kept-on (a .change) _ _ _ (next-row _ _ _ (p .before .loop-test .taken) (p .entry-at .ensures))
     (c .before .before .before .if1 .left) (c .if2 .taken)
 
 entry-at-requires : tie.Need-entry-at-requires Inv-loop μ-loop
