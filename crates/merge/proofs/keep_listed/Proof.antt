@@ -27,6 +27,19 @@ abbrev μ-loop : tie.MeasureT-loop
 loop-holds : tie.Need-loop-holds Inv-loop μ-loop
 loop-holds c = (omega arith, omega arith, omega arith, writing-all _ _ _ _, refl, refl)
 
+at-kept : (c : tie.Then2 Inv-loop μ-loop) →
+    let p = c .before .before .before .before .before .before in
+    let a = p .before .before .before .before .before .args in
+    let l = p .before .before .loop in
+    let e = p .entry-at .result in
+    KeptTurn (a .change) (l .status) (e .offer) (entriesFrom (a .old .now) (l .at) (l .left)) (e ∷ [])
+    (entriesFrom (a .old .now) (l .at + entryWords) (l .left - 1))
+at-kept c =
+    let p = c .before .before .before .before .before .before in
+    let a = p .before .before .before .before .before .args in
+    kept-on (a .change) _ _ _ (next-row _ _ _ (p .before .loop-test .taken) (p .entry-at .ensures))
+    (c .before .before .before .if1 .left) (c .if2 .taken)
+
 entry-at-requires : tie.Need-entry-at-requires Inv-loop μ-loop
 entry-at-requires c κs = search needs
 
@@ -55,18 +68,6 @@ add-at c = search needs
 
 sub-left : tie.Need-sub-left Inv-loop μ-loop
 sub-left c = search needs
-
-at-kept : (c : tie.Then2 Inv-loop μ-loop) →
-    let p = c .before .before .before .before .before .before in
-    let a = p .before .before .before .before .before .args in
-    let l = p .before .before .loop in
-    let e = p .entry-at .result in
-    KeptTurn (a .change) (l .status) (e .offer) (entriesFrom (a .old .now) (l .at) (l .left)) (e ∷ [])
-    (entriesFrom (a .old .now) (l .at + entryWords) (l .left - 1))
-at-kept c =
-    let p = c .before .before .before .before .before .before in
-    kept-on _ _ _ _ (next-row _ _ _ (p .before .loop-test .taken) (p .entry-at .ensures))
-    (c .before .before .before .if1 .left) (c .if2 .taken)
 
 put-requires : tie.Need-put-requires Inv-loop μ-loop
 put-requires c κs = search needs

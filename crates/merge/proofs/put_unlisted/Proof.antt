@@ -34,7 +34,7 @@ returns-2 c =
     let p = c .before .before in
     let a = p .before .before .before .args in
     let es = entriesFrom (a .old .now) (a .at) (a .left) in
-    rw (goes (a .day) (a .e) es (not-false _ (p .if1 .left)) (c .if2 .taken), no-words)
+    rw (goes (a .day) (a .e) es (not-false _ (p .if1 .left)) (omega arith), no-words)
     (omega arith, sym (stored-nil (a .write) (a .new .now) (headerWords + a .count * entryWords)))
 
 put-requires-2 : tie.Need-put-requires-2
