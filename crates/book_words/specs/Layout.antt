@@ -1,9 +1,12 @@
 -- The book's words (document 01, "The book"): entry count, notice period, last received day, latest effective day, then three
 -- words an entry: key, day, offer word. Unused words are 0.
 use mathlib.Core.Path.{_≡_, refl}
+use mathlib.Core.Bool.{cond}
 use mathlib.Core.List.{List, [], _∷_, _++_}
 use Prim.Native.Nat.{ℕ, zero, suc, _+_, _-_, _*_, _/_, min}
+use lib.Dec.{leb}
 use lib.ListN.{length, getD, replicate}
+use lib.Seq.{sets}
 use Rattle.book_words.specs.declared.Entry.{Entry}
 use Rattle.book_words.specs.declared.Header.{Header}
 
@@ -78,6 +81,16 @@ bookOf len period received latest es =
     wordsOfHeader (header (length es) period received latest)
     ++ (wordsOf es ++ replicate (len - (headerWords + length es * entryWords)) 0)
 
+-- Words with an entry written at a place, where there are words for all of it; and with several, after the first n.
+unfoldable pub putEntry : List ℕ → ℕ → Entry → List ℕ
+unfolding wordsOf
+putEntry ws at e = cond (leb (at + entryWords) (length ws)) (sets ws at (wordsOf (e ∷ []))) ws
+
+unfoldable pub putEntries : List ℕ → ℕ → List Entry → List ℕ
+unfolding putEntry
+putEntries ws n [] = ws
+putEntries ws n (e ∷ es) = putEntries (putEntry ws (headerWords + n * entryWords) e) (n + 1) es
+
 -- three words short of an entry, one entry exactly, two words over; the most entries
 holds : held 0 ∷ held 6 ∷ held 7 ∷ held 9 ∷ held 196609 ∷ held 1000000 ∷ [] ≡ 0 ∷ 0 ∷ 1 ∷ 1 ∷ 65535 ∷ 65535 ∷ []
 unfolding held
@@ -90,3 +103,8 @@ one-entry = refl
 one-book : bookOf 9 7 100 100 (entry 5 6 7 ∷ []) ≡ 1 ∷ 7 ∷ 100 ∷ 100 ∷ 5 ∷ 6 ∷ 7 ∷ 0 ∷ 0 ∷ []
 unfolding bookOf
 one-book = refl
+
+-- the second of two entries has one word too few, and none is written
+one-put : putEntries (0 ∷ 0 ∷ 0 ∷ 0 ∷ 0 ∷ 0 ∷ 0 ∷ 0 ∷ 0 ∷ []) 0 (entry 5 6 7 ∷ entry 8 9 10 ∷ []) ≡ 0 ∷ 0 ∷ 0 ∷ 0 ∷ 5 ∷ 6 ∷ 7 ∷ 0 ∷ 0 ∷ []
+unfolding putEntries
+one-put = refl

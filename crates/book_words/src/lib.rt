@@ -4,7 +4,7 @@ ghost use mathlib.Core.List.{[], _∷_};
 ghost use Prim.Native.Nat.{_-_};
 ghost use lib.ListN.{length, getD, replicate};
 ghost use lib.Seq.{sets};
-ghost use Rattle.book_words.specs.Layout.{headerOf, wordsOfHeader, entryAt, wordsOf, held};
+ghost use Rattle.book_words.specs.Layout.{headerOf, wordsOfHeader, entryAt, putEntry, held};
 
 pub const HEADER_WORDS: usize = 4;
 
@@ -75,20 +75,16 @@ fn put_word(words: &mut [u64], at: usize, word: u64)
     }
 }
 
-// Writes an entry at a place, as far as there are words for it.
+// Writes an entry at a place, where there are words for all of it.
 pub fn write_entry(words: &mut [u64], at: u32, e: Entry)
-    ensures { λ _. ⌜ now (words .exit) ≡ sets (now (words .entry)) at (wordsOf (e ∷ [])) ⌝ }
+    ensures { λ _. ⌜ now (words .exit) ≡ putEntry (now (words .entry)) at e ⌝ }
 {
     let from = at as usize;
     if from + ENTRY_WORDS <= words.len() {
         words[from] = e.key;
         words[from + 1] = e.day;
         words[from + 2] = e.offer;
-        return;
     }
-    put_word(words, from, e.key);
-    put_word(words, from + 1, e.day);
-    put_word(words, from + 2, e.offer);
 }
 
 // The header words.

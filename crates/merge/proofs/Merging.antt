@@ -1,7 +1,7 @@
 -- The merge of a book and a notice, one line a turn: merging what is left of the old entries with the lines that are left, after
 -- the entries put so far, comes to the new book's entries. Assumes nothing.
 use mathlib.Core.Path.{_≡_, refl, ap, sym, _∙_}
-use mathlib.Core.Bool.{Bool, true, false}
+use mathlib.Core.Bool.{Bool}
 use mathlib.Core.List.{List, [], _∷_, _++_, append-nil}
 use Prim.Native.Nat.{ℕ, _+_, _-_, _*_, _≤_, _<_, min, max}
 use native.Mathlib.Omega.{arith}
@@ -13,17 +13,18 @@ use Rattle.notice.specs.NoticeRule.{mostLines}
 use Rattle.notice_line.specs.declared.Line.{Line}
 use Rattle.notice_line.specs.declared.LineRead.{LineRead}
 use Rattle.notice_line.specs.declared.LineRead.the-variants.{Read, Refused}
-use Rattle.book_words.specs.Layout.{headerWords, entryWords, latestOf, entriesFrom, wordsOf}
+use Rattle.book_words.specs.Layout.{headerWords, entryWords, latestOf, entriesFrom, wordsOf, putEntries}
 use Rattle.book.specs.Soundness.{headedCount}
 use Rattle.book_words.specs.declared.Entry.{Entry}
 use Rattle.book_words.proofs.Rows.{length-rows}
+use Rattle.book_words.proofs.Places.{puts-all}
 use Rattle.effect.specs.Lines.{foundIn, effectiveBy, changeBy, changesBy, latestBy}
 use Rattle.effect.specs.Closings.{closesBy}
 use Rattle.effect.specs.declared.Plan.{Plan}
 use Rattle.merge_rule.specs.Passes.{gapBelow, lineEntries, lineRest, merged}
 use Rattle.merge_rule.proofs.MergedLength.{line-length}
 use Rattle.merge.specs.Lines.{linesAt}
-use Rattle.merge.specs.Merge.{mostMerged, stored, mergedBy, mergedAnswer, mergedLeaves, Passed}
+use Rattle.merge.specs.Merge.{mostMerged, mergedBy, mergedAnswer, mergedLeaves, Passed}
 use Rattle.merge.specs.declared.Merged.{Merged}
 use Rattle.merge.specs.declared.Place.{Place}
 use Rattle.merge.proofs.LinesAgain.{lines-none-left, line-read, line-refused}
@@ -45,19 +46,19 @@ restPuts old p marks place ls = merged keysEnd (closesBy p marks) (p .closing) (
 
 -- A merge part of the way.
 pub record Merging
-    (old s : List ℕ) (p : Plan) (marks new₀ : List ℕ) (write : Bool) (all : List Line)
+    (old s : List ℕ) (p : Plan) (marks new₀ : List ℕ) (all : List Line)
     (new : List ℕ) (place : Place) (latest at left : ℕ) : Type 0 where
   pub dated : latestBy p (foundIn old) latest (linesAt left s at) ≡ latestBy p (foundIn old) (latestOf old) all
-  pub puts : Writing write new₀ 0 (mergedBy old p marks all) new (place .count) (restPuts old p marks place (linesAt left s at))
+  pub puts : Writing new₀ 0 (mergedBy old p marks all) new (place .count) (restPuts old p marks place (linesAt left s at))
 
 -- Where it starts.
 pub merge-starts :
-    (old s : List ℕ) (p : Plan) (marks new : List ℕ) (write : Bool) (at left : ℕ) {count latest : ℕ}
+    (old s : List ℕ) (p : Plan) (marks new : List ℕ) (at left : ℕ) {count latest : ℕ}
     → count ≡ headedCount old
     → latest ≡ latestOf old
-    → Merging old s p marks new write (linesAt left s at) new (record { at = headerWords; left = count; count = 0 }) latest at left
+    → Merging old s p marks new (linesAt left s at) new (record { at = headerWords; left = count; count = 0 }) latest at left
 unfolding mergedBy
-merge-starts old s p marks new write at left e f = rw (e, f) (record { dated = refl; puts = writing-all write new 0 _ })
+merge-starts old s p marks new at left e f = rw (e, f) (record { dated = refl; puts = writing-all new 0 _ })
 
 -- The next line's entries, and the others'.
 lines-split :
@@ -101,12 +102,12 @@ pass-most old from to c closes day left p h m =
     )
 
 module _
-    {old s : List ℕ} {p : Plan} {marks new₀ : List ℕ} {write : Bool} {all : List Line}
+    {old s : List ℕ} {p : Plan} {marks new₀ : List ℕ} {all : List Line}
     {new : List ℕ} {place : Place} {latest at left : ℕ}
-    (i : Merging old s p marks new₀ write all new place latest at left) where
+    (i : Merging old s p marks new₀ all new place latest at left) where
   module _ (h : 0 < left) {r : LineRead} (f : r ≡ lineAt s at) where
     -- A line that does not read: none is left.
-    pub merge-refused : {x : ℕ} → r ≡ Refused x → Merging old s p marks new₀ write all new place latest at 0
+    pub merge-refused : {x : ℕ} → r ≡ Refused x → Merging old s p marks new₀ all new place latest at 0
     merge-refused g =
         let none = line-refused left s at h f g ∙ sym (lines-none-left 0 s at (omega arith)) in
         record { dated = rw none at (i .dated); puts = rw none at (i .puts) }
@@ -122,8 +123,8 @@ module _
         → {to : Place}
         → Passed old place to (linePuts old p marks place c) (lineRest c (leftAt old place))
         → {next : List ℕ}
-        → next ≡ stored write new (headerWords + place .count * entryWords) (wordsOf (linePuts old p marks place c))
-        → Merging old s p marks new₀ write all next to day end (left - 1)
+        → next ≡ putEntries new (place .count) (linePuts old p marks place c)
+        → Merging old s p marks new₀ all next to day end (left - 1)
     merge-next {l} {end} g {c} e d {to} q n =
         let whole = line-read left s at h f g in
         let others = linesAt (left - 1) s end in
@@ -153,14 +154,14 @@ module _
         {to : Place} {rest : List Entry}
         (q : Passed old place to (gapPuts old p marks place) rest)
         {next : List ℕ}
-        (n : next ≡ stored write new (headerWords + place .count * entryWords) (wordsOf (gapPuts old p marks place))) where
-      finished : Writing write new₀ 0 (mergedBy old p marks all) next (to .count) []
+        (n : next ≡ putEntries new (place .count) (gapPuts old p marks place)) where
+      finished : Writing new₀ 0 (mergedBy old p marks all) next (to .count) []
       finished = writing-on (i .puts) (gapPuts old p marks place) [] (to .count) gap-left (q .counted) n
 
       pub merge-counted : to .count ≡ length (mergedBy old p marks all)
       merge-counted = omega (arith, writing-counted finished refl)
 
-      pub merge-written : next ≡ stored write new₀ headerWords (wordsOf (mergedBy old p marks all))
+      pub merge-written : next ≡ putEntries new₀ 0 (mergedBy old p marks all)
       merge-written = writing-end finished refl
 
       pub merge-same : length next ≡ length new₀
@@ -177,11 +178,11 @@ module _ (ws : List ℕ) (p : Plan) (marks s : List ℕ) (start lines : ℕ) {le
   merge-answers f g = rw (f, g, e)
 
   pub merge-leaves :
-      (write : Bool) (new : List ℕ) {next : List ℕ}
-      → next ≡ stored write new headerWords (wordsOf (mergedBy ws p marks (linesAt left s start)))
-      → next ≡ mergedLeaves write ws p marks s start lines new
+      (new : List ℕ) {next : List ℕ}
+      → next ≡ putEntries new 0 (mergedBy ws p marks (linesAt left s start))
+      → next ≡ mergedLeaves ws p marks s start lines new
   unfolding mergedLeaves
-  merge-leaves write new f = f ∙ rw e
+  merge-leaves new f = f ∙ rw e
 
 -- The same for callers, where there are at most so many lines.
 module _ (ws : List ℕ) (p : Plan) (marks s : List ℕ) (start lines : ℕ) (h : lines ≤ mostLines) where
@@ -200,14 +201,11 @@ module _ (ws : List ℕ) (p : Plan) (marks s : List ℕ) (start lines : ℕ) (h 
 
   pub written-all :
       (new : List ℕ) {next : List ℕ}
-      → next ≡ mergedLeaves true ws p marks s start lines new
+      → headerWords + length (mergedBy ws p marks (linesAt lines s start)) * entryWords ≤ length new
+      → next ≡ mergedLeaves ws p marks s start lines new
       → next ≡ sets new headerWords (wordsOf (mergedBy ws p marks (linesAt lines s start)))
   unfolding mergedLeaves
-  written-all new e = e ∙ ap (λ (n : ℕ). sets new headerWords (wordsOf (mergedBy ws p marks (linesAt n s start)))) few
-
-pub counted-only :
-    (ws : List ℕ) (p : Plan) (marks s : List ℕ) (start lines : ℕ) (new : List ℕ) {next : List ℕ}
-    → next ≡ mergedLeaves false ws p marks s start lines new
-    → next ≡ new
-unfolding mergedLeaves
-counted-only ws p marks s start lines new e = e
+  written-all new room e =
+      e
+      ∙ ap (λ (n : ℕ). putEntries new 0 (mergedBy ws p marks (linesAt n s start))) few
+      ∙ puts-all new 0 (mergedBy ws p marks (linesAt lines s start)) (omega arith)

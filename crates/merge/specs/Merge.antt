@@ -1,14 +1,12 @@
 -- The merge as a whole, for any words and bytes: what it answers, and the words that it leaves.
-use mathlib.Core.Bool.{Bool, cond}
 use mathlib.Core.List.{List}
 use mathlib.Core.Path.{_≡_}
 use Prim.Native.Nat.{ℕ, _+_, _*_, _≤_, min}
 use lib.ListN.{length}
-use lib.Seq.{sets}
 use Rattle.dial_code.specs.Key.{keysEnd}
 use Rattle.notice.specs.NoticeRule.{mostLines}
 use Rattle.notice_line.specs.declared.Line.{Line}
-use Rattle.book_words.specs.Layout.{headerWords, entryWords, mostEntries, mostWords, latestOf, entriesFrom, wordsOf}
+use Rattle.book_words.specs.Layout.{headerWords, entryWords, mostEntries, mostWords, latestOf, entriesFrom, putEntries}
 use Rattle.book.specs.Soundness.{headedCount}
 use Rattle.book_words.specs.declared.Entry.{Entry}
 use Rattle.effect.specs.Lines.{foundIn, changesBy, latestBy}
@@ -23,10 +21,6 @@ use Rattle.merge.specs.declared.Place.{Place}
 -- The most entries that a merge can come to: two for each old entry and one for each line.
 abbrev pub mostMerged : ℕ
 mostMerged = 2 * mostEntries + mostLines
-
--- Words stored one after the other, or only counted.
-abbrev pub stored : Bool → List ℕ → ℕ → List ℕ → List ℕ
-stored write l i vs = cond write (sets l i vs) l
 
 -- The entries of the new book, from the words of the old one and the lines of a notice.
 unfoldable pub mergedBy : List ℕ → Plan → List ℕ → List Line → List Entry
@@ -46,10 +40,9 @@ mergedAnswer ws p marks s start lines =
       latest = latestBy p (foundIn ws) (latestOf ws) (sent s start lines);
     }
 
-unfoldable pub mergedLeaves : Bool → List ℕ → Plan → List ℕ → List ℕ → ℕ → ℕ → List ℕ → List ℕ
+unfoldable pub mergedLeaves : List ℕ → Plan → List ℕ → List ℕ → ℕ → ℕ → List ℕ → List ℕ
 unfolding mergedBy
-mergedLeaves write ws p marks s start lines new =
-    stored write new headerWords (wordsOf (mergedBy ws p marks (sent s start lines)))
+mergedLeaves ws p marks s start lines new = putEntries new 0 (mergedBy ws p marks (sent s start lines))
 
 -- A place in the old entries: its numbers stay small.
 abbrev pub stands : Place → Type 0

@@ -1,13 +1,13 @@
-// The merge of a book's entries with the lines of a notice (document 01, "The book"): what is written, or only counted. Between the
+// The merge of a book's entries with the lines of a notice (document 01, "The book"). Between the
 // lines stand the entries of codes that the notice does not list, and at each line those of the line's code.
 ghost use mathlib.Core.Path.{_≡_};
 ghost use mathlib.Core.List.{[], _∷_};
-ghost use Prim.Native.Nat.{_+_, _*_, _≤_, min};
+ghost use Prim.Native.Nat.{_+_, _≤_, min};
 ghost use lib.ListN.{length};
-ghost use Rattle.book_words.specs.Layout.{headerWords, entryWords, entriesFrom, wordsOf};
+ghost use Rattle.book_words.specs.Layout.{entriesFrom, putEntries};
 ghost use Rattle.effect.specs.Closings.{closesBy};
 ghost use Rattle.merge_rule.specs.Passes.{goesOn, unlistedAs, gapBelow, restFrom, listedGroup, keptOf, restAfter, lineEntries, lineRest};
-ghost use Rattle.merge.specs.Merge.{mostMerged, stored, stands, Passed, PassedListed, mergedAnswer, mergedLeaves};
+ghost use Rattle.merge.specs.Merge.{mostMerged, stands, Passed, PassedListed, mergedAnswer, mergedLeaves};
 use book_words::Entry;
 use effect::Plan;
 use notice_line::LineRead;
@@ -39,18 +39,16 @@ fn lesser(a: u64, b: u64) -> u64
     if a < b { a } else { b }
 }
 
-// Puts an entry into the new book after so many, or only counts it.
-fn put(new: &mut [u64], count: usize, e: Entry, write: bool)
+// Puts an entry into the new book after so many, where there is room for it.
+fn put(new: &mut [u64], count: usize, e: Entry)
     requires { ⌜ count ≤ mostMerged ⌝ }
-    ensures { λ _. ⌜ now (new .exit) ≡ stored write (now (new .entry)) (headerWords + count * entryWords) (wordsOf (e ∷ [])) ⌝ }
+    ensures { λ _. ⌜ now (new .exit) ≡ putEntries (now (new .entry)) count (e ∷ []) ⌝ }
 {
-    if write {
-        book_words::write_entry(
-            new,
-            (book_words::HEADER_WORDS + count * book_words::ENTRY_WORDS) as u32,
-            e,
-        );
-    }
+    book_words::write_entry(
+        new,
+        (book_words::HEADER_WORDS + count * book_words::ENTRY_WORDS) as u32,
+        e,
+    );
 }
 
 // Whether the entry after one is of the same code and before a day.
@@ -78,21 +76,20 @@ fn put_unlisted(
     day: u64,
     new: &mut [u64],
     count: usize,
-    write: bool,
 ) -> usize
     requires { ⌜ count + 2 ≤ mostMerged ⌝ }
     ensures { λ r. ⌜ r ≡ count + length (unlistedAs closed day e (entriesFrom (now (old .entry)) at left)) ⌝ }
-    ensures { λ _. ⌜ now (new .exit) ≡ stored write (now (new .entry)) (headerWords + count * entryWords) (wordsOf (unlistedAs closed day e
-        (entriesFrom (now (old .entry)) at left))) ⌝ }
+    ensures { λ _. ⌜ now (new .exit) ≡ putEntries (now (new .entry)) count (unlistedAs closed day e
+        (entriesFrom (now (old .entry)) at left)) ⌝ }
 {
     if !closed {
-        put(new, count, e, write);
+        put(new, count, e);
         return count + 1;
     }
     if day <= e.day {
         return count;
     }
-    put(new, count, e, write);
+    put(new, count, e);
     if e.offer == 0 {
         return count + 1;
     }
@@ -104,7 +101,7 @@ fn put_unlisted(
         day,
         offer: 0,
     };
-    put(new, count + 1, end, write);
+    put(new, count + 1, end);
     count + 2
 }
 
@@ -117,14 +114,13 @@ fn pass_unlisted(
     plan: Plan,
     marks: &[u8; 1000],
     new: &mut [u64],
-    write: bool,
 ) -> Place
     requires { ⌜ stands from ⌝ }
     ensures { λ r. ⌜ Passed (now (old .entry)) from r (gapBelow below (closesBy plan (now (marks .entry))) (plan .closing)
         (entriesFrom (now (old .entry)) (from .at) (from .left))) (restFrom below (entriesFrom (now (old .entry)) (from .at)
         (from .left))) ⌝ }
-    ensures { λ _. ⌜ now (new .exit) ≡ stored write (now (new .entry)) (headerWords + from .count * entryWords) (wordsOf (gapBelow below
-        (closesBy plan (now (marks .entry))) (plan .closing) (entriesFrom (now (old .entry)) (from .at) (from .left)))) ⌝ }
+    ensures { λ _. ⌜ now (new .exit) ≡ putEntries (now (new .entry)) (from .count) (gapBelow below
+        (closesBy plan (now (marks .entry))) (plan .closing) (entriesFrom (now (old .entry)) (from .at) (from .left))) ⌝ }
 {
     let mut at = from.at;
     let mut left = from.left;
@@ -142,17 +138,17 @@ fn pass_unlisted(
         }
         at += book_words::ENTRY_WORDS as u32;
         left -= 1;
-        count = put_unlisted(old, at, left, e, alike.closed, day, new, count, write);
+        count = put_unlisted(old, at, left, e, alike.closed, day, new, count);
     }
     Place { at, left, count }
 }
 
 // Keeps the entries of a listed code that stand before its line's effective day.
-fn keep_listed(old: &[u64], from: Place, change: Entry, new: &mut [u64], write: bool) -> Kept
+fn keep_listed(old: &[u64], from: Place, change: Entry, new: &mut [u64]) -> Kept
     requires { ⌜ stands from ⌝ }
     ensures { λ r. ⌜ PassedListed (now (old .entry)) from r change (entriesFrom (now (old .entry)) (from .at) (from .left)) ⌝ }
-    ensures { λ _. ⌜ now (new .exit) ≡ stored write (now (new .entry)) (headerWords + from .count * entryWords) (wordsOf (keptOf change
-        (entriesFrom (now (old .entry)) (from .at) (from .left)))) ⌝ }
+    ensures { λ _. ⌜ now (new .exit) ≡ putEntries (now (new .entry)) (from .count) (keptOf change
+        (entriesFrom (now (old .entry)) (from .at) (from .left))) ⌝ }
 {
     let mut at = from.at;
     let mut left = from.left;
@@ -171,7 +167,7 @@ fn keep_listed(old: &[u64], from: Place, change: Entry, new: &mut [u64], write: 
         at += book_words::ENTRY_WORDS as u32;
         left -= 1;
         if e.day < change.day {
-            put(new, count, e, write);
+            put(new, count, e);
             count += 1;
             status = e.offer;
         }
@@ -185,14 +181,14 @@ fn keep_listed(old: &[u64], from: Place, change: Entry, new: &mut [u64], write: 
 }
 
 // Passes the entries of a listed code, and puts its line's change after those that stay.
-fn pass_listed(old: &[u64], from: Place, change: Entry, new: &mut [u64], write: bool) -> Place
+fn pass_listed(old: &[u64], from: Place, change: Entry, new: &mut [u64]) -> Place
     requires { ⌜ stands from ⌝ }
     ensures { λ r. ⌜ Passed (now (old .entry)) from r (listedGroup change 0 (entriesFrom (now (old .entry)) (from .at) (from
         .left))) (restAfter (change .key) (entriesFrom (now (old .entry)) (from .at) (from .left))) ⌝ }
-    ensures { λ _. ⌜ now (new .exit) ≡ stored write (now (new .entry)) (headerWords + from .count * entryWords) (wordsOf (listedGroup change 0
-        (entriesFrom (now (old .entry)) (from .at) (from .left)))) ⌝ }
+    ensures { λ _. ⌜ now (new .exit) ≡ putEntries (now (new .entry)) (from .count) (listedGroup change 0
+        (entriesFrom (now (old .entry)) (from .at) (from .left))) ⌝ }
 {
-    let k = keep_listed(old, from, change, new, write);
+    let k = keep_listed(old, from, change, new);
     if k.status == change.offer {
         return Place {
             at: k.at,
@@ -200,7 +196,7 @@ fn pass_listed(old: &[u64], from: Place, change: Entry, new: &mut [u64], write: 
             count: k.count,
         };
     }
-    put(new, k.count, change, write);
+    put(new, k.count, change);
     Place {
         at: k.at,
         left: k.left,
@@ -216,22 +212,21 @@ fn pass_line(
     plan: Plan,
     marks: &[u8; 1000],
     new: &mut [u64],
-    write: bool,
 ) -> Place
     requires { ⌜ stands from ⌝ }
     ensures { λ r. ⌜ Passed (now (old .entry)) from r (lineEntries change (closesBy plan (now (marks .entry))) (plan .closing)
         (entriesFrom (now (old .entry)) (from .at) (from .left))) (lineRest change (entriesFrom (now (old .entry)) (from .at)
         (from .left))) ⌝ }
-    ensures { λ _. ⌜ now (new .exit) ≡ stored write (now (new .entry)) (headerWords + from .count * entryWords) (wordsOf (lineEntries change
-        (closesBy plan (now (marks .entry))) (plan .closing) (entriesFrom (now (old .entry)) (from .at) (from .left)))) ⌝ }
+    ensures { λ _. ⌜ now (new .exit) ≡ putEntries (now (new .entry)) (from .count) (lineEntries change
+        (closesBy plan (now (marks .entry))) (plan .closing) (entriesFrom (now (old .entry)) (from .at) (from .left))) ⌝ }
 {
     let key = change.key;
-    let to = pass_unlisted(old, from, key, plan, marks, new, write);
-    pass_listed(old, to, change, new, write)
+    let to = pass_unlisted(old, from, key, plan, marks, new);
+    pass_listed(old, to, change, new)
 }
 
 // Merges the entries that a book's header counts with the lines of a notice from a place on, at most so many and up to the first
-// that does not read, and writes them after the new book's header as far as there are words, or only counts them.
+// that does not read, and writes them after the new book's header as far as there is room: into no words, it only counts them.
 pub fn merge(
     old: &[u64],
     notice: &[u8],
@@ -240,10 +235,9 @@ pub fn merge(
     plan: Plan,
     marks: &[u8; 1000],
     new: &mut [u64],
-    write: bool,
 ) -> Merged
     ensures { λ r. ⌜ r ≡ mergedAnswer (now (old .entry)) plan (now (marks .entry)) (now (notice .entry)) start lines ⌝ }
-    ensures { λ _. ⌜ now (new .exit) ≡ mergedLeaves write (now (old .entry)) plan (now (marks .entry)) (now (notice .entry)) start lines
+    ensures { λ _. ⌜ now (new .exit) ≡ mergedLeaves (now (old .entry)) plan (now (marks .entry)) (now (notice .entry)) start lines
         (now (new .entry)) ⌝ }
 {
     let mut place = Place {
@@ -263,13 +257,13 @@ pub fn merge(
             LineRead::Read(line, end) => {
                 let change = effect::change_of(old, plan, line);
                 latest = effect::later(latest, change.day);
-                place = pass_line(old, place, change, plan, marks, new, write);
+                place = pass_line(old, place, change, plan, marks, new);
                 at = end;
                 left -= 1;
             }
         }
     }
-    let to = pass_unlisted(old, place, dial_code::KEYS_END, plan, marks, new, write);
+    let to = pass_unlisted(old, place, dial_code::KEYS_END, plan, marks, new);
     Merged {
         count: to.count,
         latest,

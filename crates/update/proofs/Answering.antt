@@ -113,34 +113,31 @@ module _
         let y = ready s m k in
         rw (a, y .sends) (new-facts ws s m o (y .passed) .1)
 
-    -- `kept` is the new book as counting leaves it, and `fits` whether it can hold the entries
+    -- `fits` is whether the new book can hold the entries
     module _
-        {kept : List ℕ} (q : kept ≡ new)
         {fits : Bool} (t : fits ≡ leb (length (mergedBy ws p marks (linesAt (m .lines) s (m .start)))) (held (length new))) where
       tests : leb (length (newEntries ws (ready s m k .passed .sent))) (held (length new)) ≡ fits
       tests = ap (λ (es : List Entry). leb (length es) (held (length new))) (sym merges) ∙ sym t
 
       pub refuses-full : {r : Applied} → r ≡ refusedApply bookFull → fits ≡ false
-          → (r ≡ applyAnswer ws s (length new)) × (kept ≡ applied ws s new)
+          → (r ≡ applyAnswer ws s (length new)) × (new ≡ applied ws s new)
       unfolding judgedBy
       refuses-full u f =
           let y = ready s m k .passed in
-          let z =
           refuses ws s new bookFull u
           (by-judge ∙ rw (le-ltb (y .sent .received) (receivedOf ws) (omega (arith, y .received)), tests ∙ f))
-          (λ z. omega arith) in
-          (z .0, q ∙ z .1)
+          (λ z. omega arith)
 
-      pub fill-room : fits ≡ true → headerWords + length (mergedBy ws p marks (linesAt (m .lines) s (m .start))) * entryWords ≤ length kept
+      pub fill-room : fits ≡ true → headerWords + length (mergedBy ws p marks (linesAt (m .lines) s (m .start))) * entryWords ≤ length new
       fill-room f =
           let count = length (mergedBy ws p marks (linesAt (m .lines) s (m .start))) in
-          omega (arith, ap length q, held-fits count (length new) h (leb-true count (held (length new)) (sym t ∙ f)) .1)
+          omega (arith, held-fits count (length new) h (leb-true count (held (length new)) (sym t ∙ f)) .1)
 
       pub accepts : fits ≡ true → {count : ℕ} → count ≡ length (mergedBy ws p marks (linesAt (m .lines) s (m .start)))
           → {latest : ℕ} → latest ≡ latestBy p (foundIn ws) (latestOf ws) (linesAt (m .lines) s (m .start))
           → {next : List ℕ}
           → next
-          ≡ bookOf (length kept) (periodOf ws) (m .received) (latestBy p (foundIn ws) (latestOf ws) (linesAt (m .lines) s (m .start)))
+          ≡ bookOf (length new) (periodOf ws) (m .received) (latestBy p (foundIn ws) (latestOf ws) (linesAt (m .lines) s (m .start)))
           (mergedBy ws p marks (linesAt (m .lines) s (m .start)))
           → (record { refusal = 0; entries = count; received = m .received; latest = latest } ≡ applyAnswer ws s (length new))
           × (next ≡ applied ws s new)
@@ -151,5 +148,5 @@ module _
           by-judge ∙ rw (le-ltb (y .sent .received) (receivedOf ws) (omega (arith, y .received)), tests ∙ f) in
           let z = eq-eqb (applyRefusal ws s (length new)) 0 none in (
             rw (z, y .read, d ∙ dates, e ∙ ap length merges, y .received),
-            n ∙ rw (merges, dates, q, z, y .read, y .received),
+            n ∙ rw (merges, dates, z, y .read, y .received),
           )

@@ -67,7 +67,7 @@ fn apply_checked(old: &[u64], notice: &[u8], m: Summary, new: &mut [u64]) -> App
     }
     let plan = plan_of(m, header.period, header.latest);
     let marks = marks_for(notice, m);
-    if !has_room(old, notice, m, plan, &marks, new) {
+    if !has_room(old, notice, m, plan, &marks, new.len()) {
         return refused(refusal::BOOK_FULL);
     }
     let done = fill(old, notice, m, plan, &marks, new);
@@ -151,7 +151,7 @@ fn marks_for(notice: &[u8], m: Summary) -> [u8; 1000]
     marks
 }
 
-// Whether the new book can hold the merged entries. They are at most two for each old entry and one for each line, and are only
+// Whether a new book of so many words can hold the merged entries. They are at most two for each old entry and one for each line, and are only
 // counted where there might be no room for so many.
 fn has_room(
     old: &[u64],
@@ -159,18 +159,18 @@ fn has_room(
     m: Summary,
     plan: Plan,
     marks: &[u8; 1000],
-    new: &mut [u64],
+    len: usize,
 ) -> bool
     requires { ⌜ m .lines ≤ mostLines ⌝ }
     ensures { λ r. ⌜ r ≡ leb (length (mergedBy (now (old .entry)) plan (now (marks .entry)) (linesAt (m .lines) (now (notice
-        .entry)) (m .start)))) (held (length (now (new .entry)))) ⌝ }
-    ensures { λ _. ⌜ now (new .exit) ≡ now (new .entry) ⌝ }
+        .entry)) (m .start)))) (held len) ⌝ }
 {
-    let most = book_words::entries_held(new.len());
+    let most = book_words::entries_held(len);
     if (book::headed_count(old) as u64) * 2 + m.lines <= most as u64 {
         return true;
     }
-    let counted = merge::merge(old, notice, m.start, m.lines, plan, marks, new, false);
+    let mut none = [0u64; 1];
+    let counted = merge::merge(old, notice, m.start, m.lines, plan, marks, &mut none[..]);
     counted.count <= most
 }
 
@@ -192,7 +192,7 @@ fn fill(
         (latestBy plan (foundIn (now (old .entry))) (latestOf (now (old .entry))) (linesAt (m .lines) (now (notice .entry)) (m
         .start))) (mergedBy (now (old .entry)) plan (now (marks .entry)) (linesAt (m .lines) (now (notice .entry)) (m .start))) ⌝ }
 {
-    let done = merge::merge(old, notice, m.start, m.lines, plan, marks, new, true);
+    let done = merge::merge(old, notice, m.start, m.lines, plan, marks, new);
     book_words::clear(
         new,
         book_words::HEADER_WORDS + done.count * book_words::ENTRY_WORDS,

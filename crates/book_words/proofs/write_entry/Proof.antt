@@ -1,14 +1,11 @@
 -- `book_words::write_entry` meets its contract. Assumes nothing.
-use mathlib.Core.Path.{ap, _∙_}
-use mathlib.Core.List.{List}
-use Prim.Native.Nat.{ℕ, _+_, _-_}
+use mathlib.Core.Path.{sym, _∙_}
 use native.Mathlib.Omega.{arith}
 use borrow.Author.Needs.{needs}
-use lib.ListN.{set, length-set}
-use borrow.Author.Needs.{needs}
+use lib.ListN.{length-set}
 use Rattle.book_words.proofs.write_entry.Statement.{statement}
 use Rattle.book_words.proofs.write_entry.Tie as tie
-use Rattle.book_words.proofs.Places.{one-stored}
+use Rattle.book_words.proofs.Places.{one-stored, put-there, not-put}
 
 add-if1 : tie.Need-add-if1
 add-if1 c = search needs
@@ -42,35 +39,11 @@ same-length c = search needs
 
 returns : tie.Need-returns
 returns c =
-    let a = c .before .before .args in
-    one-stored (a .words .now) (a .at) (a .e)
-
-put-word-requires : tie.Need-put-word-requires
-put-word-requires c κs = search needs
-
-add-put-word : tie.Need-add-put-word
-add-put-word c = search needs
-
-put-word-requires-2 : tie.Need-put-word-requires-2
-put-word-requires-2 c κs = search needs
-
-add-put-word-2 : tie.Need-add-put-word-2
-add-put-word-2 c = search needs
-
-put-word-requires-3 : tie.Need-put-word-requires-3
-put-word-requires-3 c κs = search needs
-
-same-length-2 : tie.Need-same-length-2
-same-length-2 c = search needs
+    let a = c .before .args in
+    one-stored (a .words .now) (a .at) (a .e) ∙ sym (put-there _ _ _ (c .if1 .taken))
 
 returns-2 : tie.Need-returns-2
-returns-2 c =
-    let a = c .before .before .before .before .before .before .before .before .before .before .before .before .before .before .args in
-    c .before .before .put-word3 .ensures
-    ∙ ap (λ (l : List ℕ). set l (a .at + 2) (a .e .offer))
-    (c .before .before .before .before .before .before .put-word2 .ensures
-    ∙ ap (λ (l : List ℕ). set l (a .at + 1) (a .e .day)) (c .before .before .before .before .before .before .before .before .before .before .put-word .ensures))
-    ∙ one-stored (a .words .now) (a .at) (a .e)
+returns-2 c = sym (not-put _ _ _ (c .if1 .left))
 
 pub write-entry-spec : {M : Type 1} → statement M
 write-entry-spec =
@@ -87,10 +60,4 @@ write-entry-spec =
     slice-write-words-3
     same-length
     returns
-    put-word-requires
-    add-put-word
-    put-word-requires-2
-    add-put-word-2
-    put-word-requires-3
-    same-length-2
     returns-2)

@@ -15,17 +15,17 @@ use Rattle.merge.proofs.keep_listed.Statement.{statement}
 use Rattle.merge.proofs.keep_listed.Tie as tie
 
 abbrev Inv-loop : tie.InvT-loop
-Inv-loop old change new₀ write at₀ left₀ count₀ status₀ new at left count status =
+Inv-loop old change new₀ at₀ left₀ count₀ status₀ new at left count status =
     (at + left * entryWords ≤ mostWords) × (left ≤ left₀) × (count + left ≤ count₀ + left₀)
-    × Writing write new₀ count₀ (keptOf change (entriesFrom old at₀ left₀)) new count (keptOf change (entriesFrom old at left))
+    × Writing new₀ count₀ (keptOf change (entriesFrom old at₀ left₀)) new count (keptOf change (entriesFrom old at left))
     × (statusOf change status (entriesFrom old at left) ≡ statusOf change 0 (entriesFrom old at₀ left₀))
     × (restAfter (change .key) (entriesFrom old at left) ≡ restAfter (change .key) (entriesFrom old at₀ left₀))
 
 abbrev μ-loop : tie.MeasureT-loop
-μ-loop old change new₀ write at₀ left₀ count₀ status₀ new at left count status = left
+μ-loop old change new₀ at₀ left₀ count₀ status₀ new at left count status = left
 
 loop-holds : tie.Need-loop-holds Inv-loop μ-loop
-loop-holds c = (omega arith, omega arith, omega arith, writing-all _ _ _ _, refl, refl)
+loop-holds c = (omega arith, omega arith, omega arith, writing-all _ _ _, refl, refl)
 
 at-kept : (c : tie.Then2 Inv-loop μ-loop) →
     let p = c .before .before .before .before .before .before in

@@ -15,13 +15,13 @@ use Rattle.merge.proofs.merge.Statement.{statement}
 use Rattle.merge.proofs.merge.Tie as tie
 
 abbrev Inv-loop : tie.InvT-loop
-Inv-loop old notice start lines plan marks new₀ write place₀ latest₀ at₀ left₀ new place latest at left =
+Inv-loop old notice start lines plan marks new₀ place₀ latest₀ at₀ left₀ new place latest at left =
     (place .at + place .left * entryWords ≤ mostWords)
     × (place .count + 2 * place .left + left ≤ mostMerged)
-    × Merging old notice plan marks new₀ write (linesAt left₀ notice at₀) new place latest at left
+    × Merging old notice plan marks new₀ (linesAt left₀ notice at₀) new place latest at left
 
 abbrev μ-loop : tie.MeasureT-loop
-μ-loop old notice start lines plan marks new₀ write place₀ latest₀ at₀ left₀ new place latest at left = left
+μ-loop old notice start lines plan marks new₀ place₀ latest₀ at₀ left₀ new place latest at left = left
 
 headed-count-requires : tie.Need-headed-count-requires Inv-loop μ-loop
 headed-count-requires c κs = search needs
@@ -39,7 +39,7 @@ loop-holds c =
     let n = c .before .before .headed-count .ensures in (
       omega (arith, room .1, n),
       omega (arith, room .1, n, c .lesser .ensures),
-      merge-starts _ _ _ _ _ _ _ _ n (ap (λ (h : Header). h .latest) (c .before .header-of .ensures)),
+      merge-starts _ _ _ _ _ _ _ n (ap (λ (h : Header). h .latest) (c .before .header-of .ensures)),
     )
 
 line-at-requires : tie.Need-line-at-requires Inv-loop μ-loop
@@ -111,11 +111,11 @@ returns c =
       merge-answers (a .old .now) (a .plan) (a .marks .now) (a .notice .now) (a .start) (a .lines) e
           (merge-counted i h (p .0) (p .1)) (merge-dated i h),
       merge-leaves (a .old .now) (a .plan) (a .marks .now) (a .notice .now) (a .start) (a .lines) e
-          (a .write) (a .new .now) (merge-written i h (p .0) (p .1)),
+          (a .new .now) (merge-written i h (p .0) (p .1)),
     )
 
-cast-t18 : tie.Need-cast-t18 Inv-loop μ-loop
-cast-t18 c = search needs
+cast-t17 : tie.Need-cast-t17 Inv-loop μ-loop
+cast-t17 c = search needs
 
 pub merge-spec : {M : Type 1} → statement M
 merge-spec =
@@ -123,7 +123,7 @@ merge-spec =
     (tie.spec
     Inv-loop
     μ-loop
-    cast-t18
+    cast-t17
     headed-count-requires
     header-of-requires
     lesser-requires

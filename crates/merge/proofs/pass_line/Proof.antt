@@ -37,7 +37,7 @@ returns c =
     let group = listedGroup (a .change) 0 (restFrom (a .change .key) es) in
     let after = rw (u .0 .left) at (v .1) in (
       passed-on (u .0) (rw (u .0 .left) at (v .0)),
-      puts-on (a .write) (a .new .now) (a .from .count) n gap group (u .0 .counted) (u .1) after,
+      puts-on (a .new .now) (a .from .count) n gap group (u .0 .counted) (u .1) after,
     )
 
 pub pass-line-spec : {M : Type 1} → statement M

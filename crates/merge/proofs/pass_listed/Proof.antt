@@ -49,18 +49,6 @@ put-requires c κs =
       p .before .before .before .before .pre .1,
     )
 
-add-t13 : tie.Need-add-t13
-add-t13 c =
-    let p = c .before .before .before .before .before .before .before .before .before .before in
-    let a = p .before .before .before .before .args in
-    let es = entriesFrom (a .old .now) (a .from .at) (a .from .left) in
-    omega (
-      arith,
-      p .keep-listed .ensures .0 .counted,
-      kept-most (a .change) es,
-      length-rows (a .old .now) (a .from .at) (a .from .left),
-    )
-
 same-length-2 : tie.Need-same-length-2
 same-length-2 c = search needs
 
@@ -80,7 +68,19 @@ returns-2 c =
         fewer = k .0 .fewer;
         left = k .0 .left;
       },
-      puts-on (a .write) (a .new .now) (a .from .count) n kept line (k .0 .counted) (k .1) put,
+      puts-on (a .new .now) (a .from .count) n kept line (k .0 .counted) (k .1) put,
+    )
+
+add-t12 : tie.Need-add-t12
+add-t12 c =
+    let p = c .before .before .before .before .before .before .before .before .before .before in
+    let a = p .before .before .before .before .args in
+    let es = entriesFrom (a .old .now) (a .from .at) (a .from .left) in
+    omega (
+      arith,
+      p .keep-listed .ensures .0 .counted,
+      kept-most (a .change) es,
+      length-rows (a .old .now) (a .from .at) (a .from .left),
     )
 
 pub pass-listed-spec : {M : Type 1} → statement M
@@ -91,6 +91,6 @@ pass-listed-spec =
     same-length
     returns
     put-requires
-    add-t13
+    add-t12
     same-length-2
     returns-2)

@@ -18,18 +18,18 @@ use Rattle.merge.proofs.pass_unlisted.Statement.{statement}
 use Rattle.merge.proofs.pass_unlisted.Tie as tie
 
 abbrev Inv-loop : tie.InvT-loop
-Inv-loop old below plan marks new₀ write at₀ left₀ count₀ day alike₀ new at left count alike =
+Inv-loop old below plan marks new₀ at₀ left₀ count₀ day alike₀ new at left count alike =
     (at + left * entryWords ≤ mostWords) × (left ≤ left₀) × (count + 2 * left ≤ count₀ + 2 * left₀)
-    × Writing write new₀ count₀ (gapBelow below (closesBy plan marks) (plan .closing) (entriesFrom old at₀ left₀)) new count
+    × Writing new₀ count₀ (gapBelow below (closesBy plan marks) (plan .closing) (entriesFrom old at₀ left₀)) new count
     (gapBelow below (closesBy plan marks) (plan .closing) (entriesFrom old at left))
     × (restFrom below (entriesFrom old at left) ≡ restFrom below (entriesFrom old at₀ left₀))
     × ClosedAlike plan marks alike
 
 abbrev μ-loop : tie.MeasureT-loop
-μ-loop old below plan marks new₀ write at₀ left₀ count₀ day alike₀ new at left count alike = left
+μ-loop old below plan marks new₀ at₀ left₀ count₀ day alike₀ new at left count alike = left
 
 loop-holds : tie.Need-loop-holds Inv-loop μ-loop
-loop-holds c = (omega arith, omega arith, omega arith, writing-all _ _ _ _, refl, rw (c .closed-anyway .ensures) (anyway-alike _ _))
+loop-holds c = (omega arith, omega arith, omega arith, writing-all _ _ _, refl, rw (c .closed-anyway .ensures) (anyway-alike _ _))
 
 closed-anyway-requires : tie.Need-closed-anyway-requires Inv-loop μ-loop
 closed-anyway-requires c κs = search needs

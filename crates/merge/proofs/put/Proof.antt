@@ -1,7 +1,7 @@
 -- `merge::put` meets its contract. Assumes nothing.
-use Prim.Native.Nat.{_-_}
+use mathlib.Core.Path.{_∙_}
 use borrow.Author.Needs.{needs}
-use borrow.Author.Needs.{needs}
+use Rattle.book_words.proofs.Places.{one-put}
 use Rattle.merge.proofs.put.Statement.{statement}
 use Rattle.merge.proofs.put.Tie as tie
 
@@ -18,10 +18,9 @@ same-length : tie.Need-same-length
 same-length c = search needs
 
 returns : tie.Need-returns
-returns c = rw (c .before .before .before .before .if1 .taken) (c .before .before .write-entry .ensures)
-
-returns-2 : tie.Need-returns-2
-returns-2 c = search needs
+returns c =
+    let s = c .before .before .before .before .before .args in
+    c .before .before .write-entry .ensures ∙ one-put (s .new .now) (s .count) (s .e)
 
 cast-write-entry : tie.Need-cast-write-entry
 cast-write-entry c = search needs
@@ -35,5 +34,4 @@ put-spec =
     cast-write-entry
     write-entry-requires
     same-length
-    returns
-    returns-2)
+    returns)

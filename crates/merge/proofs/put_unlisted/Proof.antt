@@ -7,8 +7,9 @@ use native.Mathlib.Omega.{arith}
 use borrow.Author.Needs.{needs}
 use borrow.Author.Tests.{not-true, not-false}
 use Rattle.book_words.specs.Layout.{headerWords, entryWords, entry, entriesFrom}
+use Rattle.book_words.proofs.Places.{puts-none}
 use Rattle.merge_rule.specs.Passes.{unlistedAs}
-use Rattle.merge.proofs.Stores.{stored-nil, no-words, puts-on}
+use Rattle.merge.proofs.Stores.{puts-on}
 use Rattle.merge.proofs.PassLaws.{stays, goes, stays-closed, stays-on, closes-after}
 use Rattle.merge.proofs.put_unlisted.Statement.{statement}
 use Rattle.merge.proofs.put_unlisted.Tie as tie
@@ -34,8 +35,8 @@ returns-2 c =
     let p = c .before .before in
     let a = p .before .before .before .args in
     let es = entriesFrom (a .old .now) (a .at) (a .left) in
-    rw (goes (a .day) (a .e) es (not-false _ (p .if1 .left)) (omega arith), no-words)
-    (omega arith, sym (stored-nil (a .write) (a .new .now) (headerWords + a .count * entryWords)))
+    rw (goes (a .day) (a .e) es (not-false _ (p .if1 .left)) (omega arith))
+    (omega arith, sym (puts-none (a .new .now) (a .count)))
 
 put-requires-2 : tie.Need-put-requires-2
 put-requires-2 c κs = search needs
@@ -101,7 +102,7 @@ returns-5 c =
     let end = entry (a .e .key) (a .day) 0 ∷ [] in
     rw (both-put (c .before .before .before .before)) (
       omega arith,
-      puts-on (a .write) (a .new .now) (a .count) (a .count + 1) (a .e ∷ []) end refl (p .put2 .ensures) put,
+      puts-on (a .new .now) (a .count) (a .count + 1) (a .e ∷ []) end refl (p .put2 .ensures) put,
     )
 
 pub put-unlisted-spec : {M : Type 1} → statement M

@@ -47,48 +47,45 @@ marks-for-requires : tie.Need-marks-for-requires
 marks-for-requires c κs = search needs
 
 has-room-requires : tie.Need-has-room-requires
-has-room-requires c κs = ready _ _ (c .before .before .before .before .before .before .before .before .before .before .before .pre .2) .lines-most
+has-room-requires c κs = ready _ _ (c .before .before .before .before .before .before .before .before .before .before .pre .2) .lines-most
 
 refused-requires-2 : tie.Need-refused-requires-2
 refused-requires-2 c κs = search needs
 
 same-length : tie.Need-same-length
-same-length c = c .before .before .before .before .has-room .kept .1 .1 .1 .1 .1 .0
+same-length c = c .before .before .fill .kept .1 .1 .1 .1 .1 .0
 
 returns-2 : tie.Need-returns-2
 returns-2 c =
-    let h = c .before .before .before .before in
-    let s = c .before .before .before .before .before .before .before .before .before .before .before .before .before .before .before .before in
+    let h = c .before .before in
+    let s = c .before .before .before .before .before .before .before .before .before .before .before .before .before in
     let a = s .args in
     let p = s .pre in
-    refuses-full (a .old .now) (a .notice .now) (a .m) (a .new .now) (p .0) (p .1) (p .2) (in-time (c .before .before .before .before .before .before .before .before .before)) (planned (c .before .before .before .before .before .before .before .before))
-    (h .before .before .before .marks-for .ensures) (h .has-room .ensures .1) (h .has-room .ensures .0) (c .refused2 .ensures)
+    refuses-full (a .old .now) (a .notice .now) (a .m) (a .new .now) (p .0) (p .1) (p .2) (in-time (c .before .before .before .before .before .before)) (planned (c .before .before .before .before .before))
+    (h .before .before .marks-for .ensures) (h .has-room .ensures) (c .refused2 .ensures)
     (not-true _ (c .before .if2 .taken))
 
 fill-requires : tie.Need-fill-requires
 fill-requires c κs =
-    let h = c .before .before .before .before .before in
-    let s = c .before .before .before .before .before .before .before .before .before .before .before .before .before .before .before .before .before in
+    let h = c .before .before .before in
+    let s = c .before .before .before .before .before .before .before .before .before .before .before .before .before .before in
     let a = s .args in
     let p = s .pre in (
       ready _ _ (p .2) .lines-most,
-      fill-room (a .old .now) (a .notice .now) (a .m) (a .new .now) (p .0) (p .1) (p .2) (in-time (c .before .before .before .before .before .before .before .before .before .before)) (planned (c .before .before .before .before .before .before .before .before .before))
-          (h .before .before .before .marks-for .ensures) (h .has-room .ensures .1) (h .has-room .ensures .0)
+      fill-room (a .old .now) (a .notice .now) (a .m) (a .new .now) (p .0) (p .1) (p .2) (in-time (c .before .before .before .before .before .before .before)) (planned (c .before .before .before .before .before .before))
+          (h .before .before .marks-for .ensures) (h .has-room .ensures)
           (not-false _ (c .before .before .if2 .left)),
     )
 
-same-length-2 : tie.Need-same-length-2
-same-length-2 c = c .before .before .fill .kept .1 .1 .1 .1 .1 .0 ∙ c .before .before .before .before .before .before .before .before .has-room .kept .1 .1 .1 .1 .1 .0
-
 returns-3 : tie.Need-returns-3
 returns-3 c =
-    let h = c .before .before .before .before .before .before .before .before in
-    let s = c .before .before .before .before .before .before .before .before .before .before .before .before .before .before .before .before .before .before .before .before in
+    let h = c .before .before .before .before .before .before in
+    let s = c .before .before .before .before .before .before .before .before .before .before .before .before .before .before .before .before .before in
     let a = s .args in
     let p = s .pre in
     let f = c .before .before .fill .ensures in
-    accepts (a .old .now) (a .notice .now) (a .m) (a .new .now) (p .0) (p .1) (p .2) (in-time (c .before .before .before .before .before .before .before .before .before .before .before .before .before)) (planned (c .before .before .before .before .before .before .before .before .before .before .before .before))
-    (h .before .before .before .marks-for .ensures) (h .has-room .ensures .1) (h .has-room .ensures .0)
+    accepts (a .old .now) (a .notice .now) (a .m) (a .new .now) (p .0) (p .1) (p .2) (in-time (c .before .before .before .before .before .before .before .before .before .before)) (planned (c .before .before .before .before .before .before .before .before .before))
+    (h .before .before .marks-for .ensures) (h .has-room .ensures)
     (not-false _ (c .before .before .before .before .before .if2 .left)) (f .0 .0) (f .0 .1) (f .1)
 
 pub apply-checked-spec : {M : Type 1} → statement M
@@ -102,8 +99,7 @@ apply-checked-spec =
     marks-for-requires
     has-room-requires
     refused-requires-2
-    same-length
     returns-2
     fill-requires
-    same-length-2
+    same-length
     returns-3)

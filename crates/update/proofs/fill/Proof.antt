@@ -66,7 +66,7 @@ returns c =
     let p : c .before .before .before .before .header-of .result .period ≡ _ = ap (λ (x : Header). x .period) (c .before .before .before .before .header-of .ensures) in (
       m,
       book-made (a .new .now) (mergedBy (a .old .now) (a .plan) (a .marks .now) ls) _ _ _ (s .pre .1) (m .0)
-          (written-all (a .old .now) (a .plan) (a .marks .now) (a .notice .now) (a .m .start) (a .m .lines) (s .pre .0) (a .new .now) (d .merge .ensures .1))
+          (written-all (a .old .now) (a .plan) (a .marks .now) (a .notice .now) (a .m .start) (a .m .lines) (s .pre .0) (a .new .now) (s .pre .1) (d .merge .ensures .1))
           (c .before .before .before .before .before .before .before .clear .ensures)
           (rw (p, m .1) at h),
     )
