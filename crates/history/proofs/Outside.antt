@@ -183,7 +183,7 @@ pub new-sound :
     (ws : List ℕ) (n : Notice) (len : ℕ)
     → sound ws ≡ true
     → Good n
-    → 4 ≤ len
+    → headerWords ≤ len
     → length (newEntries ws n) ≤ held len
     → sound (newBook ws len n) ≡ true
 new-sound ws n len h g four fits =
