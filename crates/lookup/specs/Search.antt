@@ -10,7 +10,7 @@ use Rattle.dial_code.specs.Key.{key, prefixKey}
 use Rattle.rate.specs.Price.{rate}
 use Rattle.rate.specs.OfferWord.{offerOf}
 use Rattle.rate.specs.declared.Offer.the-variants.{Closed, Blocked, Open}
-use Rattle.book_words.specs.Layout.{headerWords, entryWords, header, wordsOfHeader, entry, entryAt, wordsOf, bookOf}
+use Rattle.book_words.specs.Layout.{headerWords, entryWords, header, wordsOfHeader, entry, noEntry, entryAt, wordsOf, bookOf}
 use Rattle.book.specs.Soundness.{headedCount}
 use Rattle.book.specs.Status.{heldOffer}
 use Rattle.lookup.specs.Match.{answer, standing}
@@ -46,7 +46,7 @@ foundUpTo ws count k d = halved (upTo ws k d) count 0 count
 -- The last of the first n entries, and one of zeros where there is none.
 unfoldable pub lastEntry : List ℕ → ℕ → Entry
 unfolding entryAt
-lastEntry ws n = cond (eqb n 0) (entry 0 0 0) (entryAt ws (headerWords + (n - 1) * entryWords))
+lastEntry ws n = cond (eqb n 0) noEntry (entryAt ws (headerWords + (n - 1) * entryWords))
 
 -- The offer word of an entry where it is the code's, and closed where it is another's.
 unfoldable pub ownWord : Entry → ℕ → ℕ
