@@ -60,7 +60,7 @@ listOf l = record { refusal = l .refusal; length = l .length }
 -- no entries, one, the most, and more; such a book holds them
 words :
     wordsFor 0 ∷ wordsFor 1 ∷ wordsFor mostEntries ∷ wordsFor (mostEntries + 1) ∷ []
-    ≡ headerWords ∷ headerWords + entryWords ∷ mostWords ∷ mostWords ∷ []
+    ≡ headerWords ∷ (headerWords + entryWords) ∷ mostWords ∷ mostWords ∷ []
 unfolding wordsFor
 words = refl
 
