@@ -8,7 +8,7 @@ use native.Mathlib.Omega.{arith}
 use borrow.Author.Tests.{ltb-false, leb-true, eq-eqb, eqb-true}
 use lib.Dec.{eqb, leb, ltb}
 use lib.ListN.{length}
-use Rattle.refusal.specs.Refusal.{receivedEarlier, bookFull}
+use Rattle.refusal.specs.Refusal.{receivedEarlier, bookTooShort, bookFull}
 use Rattle.dial_code.specs.Digits.{digitOf, isDialled}
 use Rattle.rate.specs.OfferWord.{offerOf}
 use Rattle.rate.specs.declared.Offer.the-variants.{Closed}
@@ -64,7 +64,7 @@ module _ (ws : List ℕ) (period : ℕ) (accepted : List Notice) (l : Linked ws 
   -- An apply answers what the machine answers.
   pub same-answer : (bytes : List ℕ) (len : ℕ) → applyRefusal ws bytes len ≡ answers period accepted bytes len
   unfolding applyRefusal answers
-  same-answer bytes len = rw (usable ws (l .sound)) (ap (λ (e : ℕ). cond (ltb len headerWords) 20 e) (by-reading (readNotice bytes)))
+  same-answer bytes len = rw (usable ws (l .sound)) (ap (λ (e : ℕ). cond (ltb len headerWords) bookTooShort e) (by-reading (readNotice bytes)))
     where
       by-reading : (r : Reading) → readBy ws len r ≡ readings period accepted len r
       by-reading (notice n) = same-judgement n len
@@ -115,7 +115,7 @@ accepted-facts ws bytes len h e = by-length (ltb len headerWords) refl (rw (usab
     by-reading l (notice n) q z = by-order n l q (ltb (n .received) (receivedOf ws)) refl (sym (judged-by ws n len) ∙ z)
     by-reading l (unread e) q z = absurd (omega (arith, notice-refusals bytes e q .0))
 
-    by-length : (t : Bool) → ltb len headerWords ≡ t → cond t 20 (readBy ws len (readNotice bytes)) ≡ 0 → Accepted ws bytes len
+    by-length : (t : Bool) → ltb len headerWords ≡ t → cond t bookTooShort (readBy ws len (readNotice bytes)) ≡ 0 → Accepted ws bytes len
     by-length true p z = absurd (omega arith)
     by-length false p z = by-reading (ltb-false len headerWords p) (readNotice bytes) refl z
 
