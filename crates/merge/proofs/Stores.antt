@@ -8,7 +8,7 @@ use lib.ListN.{length, length-append}
 use lib.Seq.{length-sets}
 use Rattle.book_words.specs.Layout.{headerWords, entryWords, wordsOf}
 use Rattle.book_words.specs.declared.Entry.{Entry}
-use Rattle.book_words.proofs.BookWords.{length-words}
+use Rattle.book_words.proofs.BookWords.{length-words, words-on}
 use Rattle.book_words.proofs.Places.{sets-on}
 use Rattle.merge.specs.Merge.{stored}
 
@@ -26,15 +26,10 @@ pub stored-on :
 stored-on true l i xs ys = sets-on l i xs ys
 stored-on false l i xs ys = refl
 
--- The words of entries.
+-- No entries have no words.
 pub no-words : wordsOf [] ≡ []
 unfolding wordsOf
 no-words = refl
-
-pub words-on : (es fs : List Entry) → wordsOf (es ++ fs) ≡ wordsOf es ++ wordsOf fs
-unfolding wordsOf
-words-on [] fs = refl
-words-on (e ∷ es) fs = ap (λ (ws : List ℕ). e .key ∷ e .day ∷ e .offer ∷ ws) (words-on es fs)
 
 -- Entries put after others.
 pub puts-on :
