@@ -19,7 +19,7 @@ fn put_result(result: Applied) {
 }
 
 fn run(notice: &[u8]) {
-    let mut old = [0u64; 4];
+    let mut old = [0u64; book_words::HEADER_WORDS];
     let mut new = [0u64; 8192];
     book::fresh(&mut old, PERIOD);
     put_result(update::apply(&old, notice, &mut new));

@@ -1,12 +1,12 @@
 -- What the calls on a book answer and leave (document 01, "Who can cause a refusal": the orders).
 use mathlib.Core.Path.{_≡_, refl}
 use mathlib.Core.Bool.{cond}
-use mathlib.Core.List.{List, [], _∷_}
-use Prim.Native.Nat.{ℕ}
+use mathlib.Core.List.{List, [], _∷_, _++_}
+use Prim.Native.Nat.{ℕ, _+_, _-_}
 use lib.Dec.{eqb, leb, ltb}
-use lib.ListN.{length}
+use lib.ListN.{length, replicate}
 use Rattle.refusal.specs.Refusal.{bookTooShort, bookNotSound, periodTooLong}
-use Rattle.book_words.specs.Layout.{headerWords, mostPeriod, bookOf}
+use Rattle.book_words.specs.Layout.{headerWords, mostPeriod, header, wordsOfHeader, bookOf}
 use Rattle.book.specs.Soundness.{sound}
 
 -- A fresh book: 22, then 20; a book of no entries.
@@ -27,12 +27,18 @@ unfoldable pub bookRefusal : List ℕ → ℕ
 unfolding sound
 bookRefusal ws = cond (ltb (length ws) headerWords) bookTooShort (cond (sound ws) 0 bookNotSound)
 
-fresh : freshRefusal 4 365 ∷ freshRefusal 3 365 ∷ freshRefusal 3 366 ∷ freshRefusal 4 366 ∷ [] ≡ 0 ∷ 20 ∷ 22 ∷ 22 ∷ []
+fresh :
+    freshRefusal headerWords mostPeriod
+    ∷ freshRefusal (headerWords - 1) mostPeriod
+    ∷ freshRefusal (headerWords - 1) (mostPeriod + 1)
+    ∷ freshRefusal headerWords (mostPeriod + 1)
+    ∷ []
+    ≡ 0 ∷ bookTooShort ∷ periodTooLong ∷ periodTooLong ∷ []
 unfolding freshRefusal
 fresh = refl
 
 fresh-words :
-    freshWords (9 ∷ 9 ∷ 9 ∷ 9 ∷ 9 ∷ []) 7 ∷ freshWords (9 ∷ 9 ∷ 9 ∷ []) 7 ∷ []
-    ≡ (0 ∷ 7 ∷ 0 ∷ 0 ∷ 0 ∷ []) ∷ (9 ∷ 9 ∷ 9 ∷ []) ∷ []
+    freshWords (replicate (headerWords + 1) 9) 7 ∷ freshWords (replicate (headerWords - 1) 9) 7 ∷ []
+    ≡ (wordsOfHeader (header 0 7 0 0) ++ (0 ∷ [])) ∷ replicate (headerWords - 1) 9 ∷ []
 unfolding freshWords
 fresh-words = refl

@@ -3,10 +3,10 @@
 -- days tested for range only.
 use mathlib.Core.Path.{_≡_, refl}
 use mathlib.Core.Bool.{Bool, true, false, cond, _&&_, not}
-use mathlib.Core.List.{List, [], _∷_}
-use Prim.Native.Nat.{ℕ, _+_, _*_}
+use mathlib.Core.List.{List, [], _∷_, _++_}
+use Prim.Native.Nat.{ℕ, _+_, _-_, _*_}
 use lib.Dec.{eqb, leb, ltb}
-use lib.ListN.{length, drop}
+use lib.ListN.{length, drop, replicate}
 use Rattle.country_code.specs.Code.{isCodeKey}
 use Rattle.dial_code.specs.Key.{key}
 use Rattle.rate.specs.Time.{lastDay, lastReceivedDay}
@@ -14,7 +14,9 @@ use Rattle.rate.specs.OfferWord.{offerOf}
 use Rattle.rate.specs.declared.Stored.{Stored}
 use Rattle.rate.specs.declared.Stored.the-variants.{Holds, Invalid}
 use Rattle.book_words.specs.Layout.{headerWords, entryWords, mostPeriod, countOf, periodOf, receivedOf, latestOf, held, entriesOf}
+use Rattle.book_words.specs.Layout.{header, wordsOfHeader, entry, wordsOf}
 use Rattle.book_words.specs.declared.Entry.{Entry}
+use Rattle.book_words.specs.declared.Header.{Header}
 
 abbrev pub isHeld : Stored → Bool
 isHeld (Holds o) = true
@@ -80,43 +82,50 @@ headedCount ws = cond (leb headerWords (length ws) && soundHeader ws) (countOf w
 k1 : ℕ
 k1 = key (2 ∷ 3 ∷ 4 ∷ 8 ∷ 0 ∷ [])
 
+p1 : Entry
+p1 = entry k1 100 589824000259
+
+-- a header and some entries, however many it counts
+filled : Header → List Entry → List ℕ
+filled h es = wordsOfHeader h ++ wordsOf es
+
 good :
-    sound (0 ∷ 7 ∷ 0 ∷ 0 ∷ 0 ∷ 0 ∷ [])
-    ∷ sound (1 ∷ 7 ∷ 100 ∷ 100 ∷ k1 ∷ 100 ∷ 589824000259 ∷ [])
-    ∷ sound (2 ∷ 7 ∷ 100 ∷ 100 ∷ k1 ∷ 100 ∷ 589824000259 ∷ k1 ∷ 101 ∷ 0 ∷ 0 ∷ [])
-    ∷ sound (2 ∷ 365 ∷ 60000 ∷ 65000 ∷ k1 ∷ 0 ∷ 1 ∷ key (2 ∷ 3 ∷ 4 ∷ 8 ∷ 0 ∷ 6 ∷ []) ∷ 65000 ∷ 259 ∷ [])
+    sound (filled (header 0 7 0 0) [] ++ (0 ∷ 0 ∷ []))
+    ∷ sound (filled (header 1 7 100 100) (p1 ∷ []))
+    ∷ sound (filled (header 2 7 100 100) (p1 ∷ entry k1 101 0 ∷ []) ++ (0 ∷ []))
+    ∷ sound (filled (header 2 mostPeriod lastReceivedDay lastDay) (entry k1 0 1 ∷ entry (key (2 ∷ 3 ∷ 4 ∷ 8 ∷ 0 ∷ 6 ∷ [])) lastDay 259 ∷ []))
     ∷ []
     ≡ true ∷ true ∷ true ∷ true ∷ []
-unfolding sound k1 key isCodeKey offerOf
+unfolding sound filled wordsOf p1 k1 key isCodeKey offerOf
 good = refl
 
 broken :
-    sound (0 ∷ 7 ∷ 0 ∷ [])
-    ∷ sound (1 ∷ 7 ∷ 0 ∷ 0 ∷ k1 ∷ 100 ∷ [])
-    ∷ sound (0 ∷ 366 ∷ 0 ∷ 0 ∷ [])
-    ∷ sound (0 ∷ 7 ∷ 60001 ∷ 0 ∷ [])
-    ∷ sound (0 ∷ 7 ∷ 0 ∷ 65001 ∷ [])
-    ∷ sound (1 ∷ 7 ∷ 0 ∷ 0 ∷ (k1 + 1) ∷ 100 ∷ 1 ∷ [])
-    ∷ sound (1 ∷ 7 ∷ 0 ∷ 0 ∷ k1 ∷ 65001 ∷ 1 ∷ [])
-    ∷ sound (1 ∷ 7 ∷ 0 ∷ 0 ∷ k1 ∷ 100 ∷ 258 ∷ [])
-    ∷ sound (1 ∷ 7 ∷ 0 ∷ 0 ∷ k1 ∷ 100 ∷ 0 ∷ [])
-    ∷ sound (2 ∷ 7 ∷ 0 ∷ 0 ∷ k1 ∷ 100 ∷ 1 ∷ k1 ∷ 101 ∷ 1 ∷ [])
-    ∷ sound (2 ∷ 7 ∷ 0 ∷ 0 ∷ k1 ∷ 100 ∷ 1 ∷ k1 ∷ 100 ∷ 0 ∷ [])
-    ∷ sound (0 ∷ 7 ∷ 0 ∷ 0 ∷ 1 ∷ [])
+    sound (replicate (headerWords - 1) 0)
+    ∷ sound (filled (header 1 7 0 0) [] ++ (k1 ∷ 100 ∷ []))
+    ∷ sound (filled (header 0 (mostPeriod + 1) 0 0) [])
+    ∷ sound (filled (header 0 7 (lastReceivedDay + 1) 0) [])
+    ∷ sound (filled (header 0 7 0 (lastDay + 1)) [])
+    ∷ sound (filled (header 1 7 0 0) (entry (k1 + 1) 100 1 ∷ []))
+    ∷ sound (filled (header 1 7 0 0) (entry k1 (lastDay + 1) 1 ∷ []))
+    ∷ sound (filled (header 1 7 0 0) (entry k1 100 258 ∷ []))
+    ∷ sound (filled (header 1 7 0 0) (entry k1 100 0 ∷ []))
+    ∷ sound (filled (header 2 7 0 0) (entry k1 100 1 ∷ entry k1 101 1 ∷ []))
+    ∷ sound (filled (header 2 7 0 0) (entry k1 100 1 ∷ entry k1 100 0 ∷ []))
+    ∷ sound (filled (header 0 7 0 0) [] ++ (1 ∷ []))
     ∷ []
     ≡ false ∷ false ∷ false ∷ false ∷ false ∷ false ∷ false ∷ false ∷ false ∷ false ∷ false ∷ false ∷ []
-unfolding sound k1 key isCodeKey offerOf
+unfolding sound filled wordsOf k1 key isCodeKey offerOf
 broken = refl
 
--- no word, no entry, three words; P1's entry under a count of 2, and under a period of 366; P1's book
+-- no word, no entry, a word short of a header; P1's entry under a count of 2, and under a period of 366; P1's book
 counts :
     headedCount []
-    ∷ headedCount (0 ∷ 7 ∷ 0 ∷ 0 ∷ [])
-    ∷ headedCount (1 ∷ 7 ∷ 100 ∷ [])
-    ∷ headedCount (2 ∷ 7 ∷ 100 ∷ 100 ∷ k1 ∷ 100 ∷ 589824000259 ∷ [])
-    ∷ headedCount (1 ∷ 366 ∷ 100 ∷ 100 ∷ k1 ∷ 100 ∷ 589824000259 ∷ [])
-    ∷ headedCount (1 ∷ 7 ∷ 100 ∷ 100 ∷ k1 ∷ 100 ∷ 589824000259 ∷ [])
+    ∷ headedCount (filled (header 0 7 0 0) [])
+    ∷ headedCount (replicate (headerWords - 1) 1)
+    ∷ headedCount (filled (header 2 7 100 100) (p1 ∷ []))
+    ∷ headedCount (filled (header 1 (mostPeriod + 1) 100 100) (p1 ∷ []))
+    ∷ headedCount (filled (header 1 7 100 100) (p1 ∷ []))
     ∷ []
     ≡ 0 ∷ 0 ∷ 0 ∷ 0 ∷ 0 ∷ 1 ∷ []
-unfolding headedCount k1 key
+unfolding headedCount filled wordsOf p1 k1 key
 counts = refl

@@ -6,12 +6,12 @@ use native.Mathlib.Numerals.{add-one, sub-one}
 use native.Mathlib.Omega.{arith}
 use lib.ListN.{length, getD, set, replicate}
 use lib.Seq.{sets}
-use Rattle.book_words.specs.Layout.{headerWords, entryWords, entry, countOf, entryAt, entriesFrom, entriesOf}
+use Rattle.book_words.specs.Layout.{headerWords, entryWords, noEntry, countOf, entryAt, entriesFrom, entriesOf}
 use Rattle.book_words.specs.declared.Entry.{Entry}
 
 -- The i-th of some entries, counted from 0.
 abbrev pub entryIn : List Entry → ℕ → Entry
-entryIn es i = getD es i (entry 0 0 0)
+entryIn es i = getD es i noEntry
 
 -- The entries of a book, by position and count: none, the first and the others, how many.
 pub of-book : (ws : List ℕ) → entriesOf ws ≡ entriesFrom ws headerWords (countOf ws)

@@ -52,6 +52,10 @@ wordsOfHeader h = h .count ∷ h .period ∷ h .received ∷ h .latest ∷ []
 abbrev pub entry : ℕ → ℕ → ℕ → Entry
 entry k d o = record { key = k; day = d; offer = o }
 
+-- what stands for an entry where there is none
+abbrev pub noEntry : Entry
+noEntry = entry 0 0 0
+
 -- The entry that starts at a word, and so many of them one after the other.
 unfoldable pub entryAt : List ℕ → ℕ → Entry
 entryAt ws at = entry (getD ws at 0) (getD ws (at + 1) 0) (getD ws (at + 2) 0)

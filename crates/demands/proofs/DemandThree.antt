@@ -15,7 +15,7 @@ use Rattle.rate.specs.Time.{isDay}
 use Rattle.rate.specs.declared.Day.{Day}
 use Rattle.notice.specs.NoticeRule.{Notice, notice, readNotice, full}
 use Rattle.notice_line.specs.declared.Line.{Line}
-use Rattle.book_words.specs.Layout.{periodOf, receivedOf, held, entriesOf}
+use Rattle.book_words.specs.Layout.{headerWords, periodOf, receivedOf, held, entriesOf}
 use Rattle.book.specs.Soundness.{sound}
 use Rattle.book.specs.Answers.{freshRefusal, freshBook}
 use Rattle.lookup.specs.Lookup.{lookup}
@@ -90,7 +90,7 @@ pub full-exactly :
     → (all : List Apply) (bytes : List ℕ) (len : ℕ)
     → (applyRefusal (bookLeft (freshBook start period) all) bytes len ≡ bookFull)
     ↔ ((n : Notice)
-    × (4 ≤ len)
+    × (headerWords ≤ len)
     × (readNotice bytes ≡ notice n)
     × (lastReceived (acceptedBy period [] all) ≤ n .received)
     × (held len < length (changeDays (words (known period (n ∷ acceptedBy period [] all))))))
@@ -103,7 +103,7 @@ pub taken-exactly :
     → (all : List Apply) (bytes : List ℕ) (len : ℕ)
     → (applyRefusal (bookLeft (freshBook start period) all) bytes len ≡ 0)
     ↔ ((n : Notice)
-    × (4 ≤ len)
+    × (headerWords ≤ len)
     × (readNotice bytes ≡ notice n)
     × (lastReceived (acceptedBy period [] all) ≤ n .received)
     × (length (changeDays (words (known period (n ∷ acceptedBy period [] all)))) ≤ held len))

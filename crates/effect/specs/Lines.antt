@@ -10,6 +10,7 @@ use Rattle.rate.specs.declared.Offer.{Offer}
 use Rattle.rate.specs.declared.Offer.the-variants.{Closed, Blocked, Open}
 use Rattle.notice_line.specs.LineRule.{lineOf, listedDay}
 use Rattle.notice_line.specs.declared.Line.{Line}
+use Rattle.notice.specs.NoticeRule.{update}
 use Rattle.book_words.specs.Layout.{entry}
 use Rattle.book_words.specs.declared.Entry.{Entry}
 use Rattle.lookup.specs.Search.{bestFound}
@@ -52,7 +53,7 @@ latestBy p found latest (l ∷ ls) = latestBy p found (max latest (effectiveBy p
 
 -- an update received on day 100 with the floor on day 107
 plan : Bool → Plan
-plan noticed = record { kind = 3; country = 0; received = 100; floor = 107; noticed = noticed; closing = 107 }
+plan noticed = record { kind = update; country = 0; received = 100; floor = 107; noticed = noticed; closing = 107 }
 
 line : Offer → ℕ → Line
 line offer listed = lineOf 5 offer listed

@@ -11,6 +11,7 @@ use Rattle.dial_code.specs.Key.{keysEnd}
 use Rattle.country_code.specs.Code.{isCodeKey}
 use Rattle.dial_code.proofs.Tests.{below, equal, above, order}
 use Rattle.country_code.proofs.CodeLaws.{beyond-keys}
+use Rattle.rate.specs.Time.{lastDay}
 use Rattle.book_words.specs.Layout.{entry}
 use Rattle.book.specs.Soundness.{isOfferWord, soundEntries}
 use Rattle.book.specs.Status.{statusFrom, statusIn}
@@ -81,24 +82,24 @@ module _ (word : ℕ → ℕ → ℕ) (k : ℕ) where
 pub record Admissible (word : ℕ → ℕ → ℕ) : Type 0 where
   pub offers : (k d : ℕ) → isOfferWord (word k d) ≡ true
   pub closed : (k d : ℕ) → isCodeKey k ≡ false → word k d ≡ 0
-  pub last : (k d : ℕ) → 65000 ≤ d → word k d ≡ word k 65000
+  pub last : (k d : ℕ) → lastDay ≤ d → word k d ≡ word k lastDay
 
 module _ (word : ℕ → ℕ → ℕ) (a : Admissible word) where
   code-status : (k y : ℕ) → statusFrom 0 (codeChanges word k) k y ≡ word k y
   unfolding codeChanges
   code-status k y =
-      elim (order y 65001) [
-        | below h ↦ changes-here word k 0 0 65001 y (omega arith) (omega arith)
+      elim (order y (lastDay + 1)) [
+        | below h ↦ changes-here word k 0 0 (lastDay + 1) y (omega arith) (omega arith)
         | equal h ↦ past (omega arith)
         | above h ↦ past (omega arith)
       ]
     where
-      past : 65000 ≤ y → statusFrom 0 (changesFrom word k 0 0 65001) k y ≡ word k y
-      past h = changes-past word k 0 0 65000 y (omega arith) ∙ sym (a .last k y h)
+      past : lastDay ≤ y → statusFrom 0 (changesFrom word k 0 0 (lastDay + 1)) k y ≡ word k y
+      past h = changes-past word k 0 0 lastDay y (omega arith) ∙ sym (a .last k y h)
 
   code-other : (k x w y : ℕ) → (k ≡ x → ⊥) → statusFrom w (codeChanges word k) x y ≡ w
   unfolding codeChanges
-  code-other k x w y h = changes-other word k x h w 0 0 65001 y
+  code-other k x w y h = changes-other word k x h w 0 0 (lastDay + 1) y
 
   keys-other : (k n x w y : ℕ) → x < k → statusFrom w (keyChanges word k n) x y ≡ w
   unfolding keyChanges statusFrom
@@ -181,7 +182,7 @@ module _ (word : ℕ → ℕ → ℕ) (a : Admissible word) (k : ℕ) (rest : Li
       → Ready j m o k before d
       → j ≤ k
       → (isCodeKey k ≡ false → before ≡ 0)
-      → d + n ≤ 65001
+      → d + n ≤ lastDay + 1
       → SoundFrom j m o (changesFrom word k before d n ++ rest)
   unfolding changesFrom
   changes-sound j m o before d zero b l c h = r j m o l
@@ -207,7 +208,7 @@ module _ (word : ℕ → ℕ → ℕ) (a : Admissible word) where
       → ((j m o : ℕ) → j ≤ k → SoundFrom j m o rest)
       → SoundFrom j m o (codeChanges word k ++ rest)
   unfolding codeChanges
-  code-sound k j m o rest b l r = changes-sound word a k rest r j m o 0 0 65001 b l (λ e. refl) (omega arith)
+  code-sound k j m o rest b l r = changes-sound word a k rest r j m o 0 0 (lastDay + 1) b l (λ e. refl) (omega arith)
 
   keys-sound : (k n j m o : ℕ) → j < k → SoundFrom j m o (keyChanges word k n)
   unfolding keyChanges SoundFrom

@@ -20,7 +20,7 @@ use Rattle.rate.specs.declared.Day.{Day}
 use Rattle.notice.specs.NoticeRule.{Notice, notice, readNotice, full}
 use Rattle.notice_line.specs.declared.Line.{Line}
 use Rattle.notice.proofs.NoticeLaws.{notice-valid}
-use Rattle.book_words.specs.Layout.{periodOf, receivedOf, held, entriesOf}
+use Rattle.book_words.specs.Layout.{headerWords, periodOf, receivedOf, held, entriesOf}
 use Rattle.book.specs.Soundness.{sound}
 use Rattle.book.specs.Answers.{freshRefusal, freshBook}
 use Rattle.lookup.specs.Lookup.{lookup}
@@ -64,7 +64,7 @@ accepted-notice :
     → sound ws ≡ true
     → applyRefusal ws bytes len ≡ 0
     → readNotice bytes ≡ notice n
-    → (4 ≤ len) × (receivedOf ws ≤ n .received) × (length (newEntries ws n) ≤ held len)
+    → (headerWords ≤ len) × (receivedOf ws ≤ n .received) × (length (newEntries ws n) ≤ held len)
 accepted-notice ws bytes len n h e q =
     let x = accepted-facts ws bytes len h e in
     let s : x .read ≡ n = cc (x .reads) in
@@ -115,7 +115,7 @@ module _ (ws : List ℕ) (period : ℕ) (accepted : List Notice) (l : Linked ws 
   pub full-exactly :
       (applyRefusal ws bytes len ≡ bookFull)
       ↔ ((n : Notice)
-      × (4 ≤ len)
+      × (headerWords ≤ len)
       × (readNotice bytes ≡ notice n)
       × (lastReceived accepted ≤ n .received)
       × (held len < length (changeDays (words (known period (n ∷ accepted))))))
@@ -125,7 +125,7 @@ module _ (ws : List ℕ) (period : ℕ) (accepted : List Notice) (l : Linked ws 
   pub taken-exactly :
       (applyRefusal ws bytes len ≡ 0)
       ↔ ((n : Notice)
-      × (4 ≤ len)
+      × (headerWords ≤ len)
       × (readNotice bytes ≡ notice n)
       × (lastReceived accepted ≤ n .received)
       × (length (changeDays (words (known period (n ∷ accepted)))) ≤ held len))
@@ -136,7 +136,7 @@ module _ (start period : ℕ) (f : freshRefusal start period ≡ 0) (all : List 
   pub fresh-full-exactly :
       (applyRefusal (bookLeft (freshBook start period) all) bytes len ≡ bookFull)
       ↔ ((n : Notice)
-      × (4 ≤ len)
+      × (headerWords ≤ len)
       × (readNotice bytes ≡ notice n)
       × (lastReceived (acceptedBy period [] all) ≤ n .received)
       × (held len < length (changeDays (words (known period (n ∷ acceptedBy period [] all))))))
@@ -146,7 +146,7 @@ module _ (start period : ℕ) (f : freshRefusal start period ≡ 0) (all : List 
   pub fresh-taken-exactly :
       (applyRefusal (bookLeft (freshBook start period) all) bytes len ≡ 0)
       ↔ ((n : Notice)
-      × (4 ≤ len)
+      × (headerWords ≤ len)
       × (readNotice bytes ≡ notice n)
       × (lastReceived (acceptedBy period [] all) ≤ n .received)
       × (length (changeDays (words (known period (n ∷ acceptedBy period [] all)))) ≤ held len))

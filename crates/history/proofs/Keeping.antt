@@ -3,7 +3,7 @@
 use mathlib.Core.Path.{_≡_, refl, ap, sym, _∙_}
 use mathlib.Core.Bool.{Bool, true, false, cond, _||_, true≢false}
 use mathlib.Core.List.{List, [], _∷_}
-use Prim.Native.Nat.{ℕ, _-_, _≤_}
+use Prim.Native.Nat.{ℕ, _+_, _-_, _≤_}
 use native.Mathlib.Omega.{arith}
 use borrow.Author.Tests.{le-leb, eqb-true}
 use lib.Dec.{eqb, leb}
@@ -11,7 +11,9 @@ use Rattle.country_code.specs.Code.{isCodeKey}
 use Rattle.rate.specs.OfferWord.{inRange}
 use Rattle.rate.specs.declared.Offer.{Offer}
 use Rattle.rate.specs.declared.Offer.the-variants.{Closed}
+use Rattle.rate.specs.Time.{lastDay, lastReceivedDay}
 use Rattle.notice.specs.NoticeRule.{Notice, notice, readNotice, replacement}
+use Rattle.book_words.specs.Layout.{mostPeriod}
 use Rattle.notice_line.specs.declared.Line.{Line}
 use Rattle.notice.proofs.LinesLaws.{ValidFrom}
 use Rattle.notice.proofs.NoticeLaws.{notice-valid}
@@ -21,53 +23,53 @@ use Rattle.history.specs.Effect.{Known, listed, Change, from, nothing, w
 pub record GoodLine (l : Line) : Type 0 where
   pub code : isCodeKey (l .key) ≡ true
   pub offer : inRange (l .offer) ≡ true
-  pub day : l .listed ≤ 65001
+  pub day : l .listed ≤ lastDay + 1
 
 abbrev pub GoodLines : List Line → Type 0
 GoodLines [] = Unit {0}
 GoodLines (l ∷ ls) = GoodLine l × GoodLines ls
 
 pub record Good (n : Notice) : Type 0 where
-  pub received : n .received ≤ 60000
+  pub received : n .received ≤ lastReceivedDay
   pub lines : GoodLines (n .lines)
 
 -- What every history and every sound book gives.
 pub record Standing (k : Known) : Type 0 where
   pub offers : (x d : ℕ) → inRange (k .status x d) ≡ true
   pub closed : (x d : ℕ) → isCodeKey x ≡ false → k .status x d ≡ Closed
-  pub last : (x d : ℕ) → 65000 ≤ d → k .status x d ≡ k .status x 65000
-  pub latest : k .latest ≤ 65000
+  pub last : (x d : ℕ) → lastDay ≤ d → k .status x d ≡ k .status x lastDay
+  pub latest : k .latest ≤ lastDay
 
 -- A change to a code's offer: in range, by the last day, and closed where the key is no code's.
 abbrev GoodChange : ℕ → Change → Type 0
-GoodChange x (from day offer) = (day ≤ 65000) × (inRange offer ≡ true) × (isCodeKey x ≡ false → offer ≡ Closed)
+GoodChange x (from day offer) = (day ≤ lastDay) × (inRange offer ≡ true) × (isCodeKey x ≡ false → offer ≡ Closed)
 GoodChange x nothing = Unit {0}
 
 pub closed-in-range : inRange Closed ≡ true
 unfolding inRange
 closed-in-range = refl
 
-module _ (period : ℕ) (p : period ≤ 365) (before : Known) (n : Notice) (g : Good n) where
-  noticed-by : (l : Line) → GoodLine l → noticed period n l ≤ 65000
+module _ (period : ℕ) (p : period ≤ mostPeriod) (before : Known) (n : Notice) (g : Good n) where
+  noticed-by : (l : Line) → GoodLine l → noticed period n l ≤ lastDay
   noticed-by l h = omega (arith, g .received, h .day)
 
-  pub effective-by : (l : Line) → GoodLine l → effective period before n l ≤ 65000
+  pub effective-by : (l : Line) → GoodLine l → effective period before n l ≤ lastDay
   unfolding effective
   effective-by l h = go (eqb (n .kind) replacement || (outOfSequence before n || isIncrease before n l))
     where
-      go : (t : Bool) → cond t (noticed period n l) (wanted n l) ≤ 65000
+      go : (t : Bool) → cond t (noticed period n l) (wanted n l) ≤ lastDay
       go true = noticed-by l h
       go false = omega (arith, noticed-by l h)
 
-  pub closing-by : closing period n ≤ 65000
+  pub closing-by : closing period n ≤ lastDay
   unfolding closing
   closing-by = go (eqb (n .kind) replacement) (n .lines) (g .lines)
     where
-      first-by : (ls : List Line) → GoodLines ls → firstNoticed period n ls ≤ 65000
+      first-by : (ls : List Line) → GoodLines ls → firstNoticed period n ls ≤ lastDay
       first-by [] h = omega (arith, g .received)
       first-by (l ∷ ls) h = noticed-by l (h .0)
 
-      go : (t : Bool) (ls : List Line) → GoodLines ls → cond t (firstNoticed period n ls) (floorOf period n) ≤ 65000
+      go : (t : Bool) (ls : List Line) → GoodLines ls → cond t (firstNoticed period n ls) (floorOf period n) ≤ lastDay
       go true ls h = first-by ls h
       go false ls h = omega (arith, g .received)
 
@@ -96,7 +98,7 @@ module _ (period : ℕ) (p : period ≤ 365) (before : Known) (n : Notice) (g : 
   unfolding changeOf
   change-good x = listed-good x (n .lines) (g .lines)
 
-  latest-by : (ls : List Line) → GoodLines ls → before .latest ≤ 65000 → latestEffective period before n ls ≤ 65000
+  latest-by : (ls : List Line) → GoodLines ls → before .latest ≤ lastDay → latestEffective period before n ls ≤ lastDay
   unfolding latestEffective
   latest-by [] h l = l
   latest-by (m ∷ ls) h l = omega (arith, effective-by m (h .0), latest-by ls (h .1) l)
@@ -128,17 +130,17 @@ changed-last :
     (x : ℕ) (c : Change)
     → GoodChange x c
     → (d : ℕ) (o q : Offer)
-    → 65000 ≤ d
+    → lastDay ≤ d
     → o ≡ q
-    → changed c d o ≡ changed c 65000 q
+    → changed c d o ≡ changed c lastDay q
 changed-last x nothing g d o q h e = e
 changed-last x (from day offer) g d o q h e =
-    rw (le-leb day d (omega (arith, g .0)), le-leb day 65000 (g .0))
+    rw (le-leb day d (omega (arith, g .0)), le-leb day lastDay (g .0))
 
 -- What a notice that reads leaves standing.
 pub keeps :
     (period : ℕ)
-    → period ≤ 365
+    → period ≤ mostPeriod
     → (before : Known) (n : Notice)
     → Good n
     → Standing before
@@ -147,7 +149,7 @@ keeps period p before n g s =
     record {
       offers = λ x d. changed-in-range x (changeOf period before n x) (change-good period p before n g x) d (before .status x d) (s .offers x d);
       closed = λ x d e. changed-closed x (changeOf period before n x) (change-good period p before n g x) e d (before .status x d) (s .closed x d e);
-      last = λ x d h. changed-last x (changeOf period before n x) (change-good period p before n g x) d (before .status x d) (before .status x 65000) h (s .last x d h);
+      last = λ x d h. changed-last x (changeOf period before n x) (change-good period p before n g x) d (before .status x d) (before .status x lastDay) h (s .last x d h);
       latest = latest-by period p before n g (n .lines) (g .lines) (s .latest);
     }
 

@@ -19,10 +19,11 @@ use Rattle.dial_code.proofs.Tests.{both, and-left-true}
 use Rattle.dial_code.proofs.DigitLaws.{dialled-digits}
 use Rattle.country_code.proofs.CountryLaws.{country-of-key}
 use Rattle.country_code.proofs.CodeLaws.{without-country}
+use Rattle.refusal.specs.Refusal.{bookTooShort}
 use Rattle.rate.specs.Time.{isDay}
 use Rattle.rate.specs.declared.Day.{Day}
 use Rattle.rate.specs.declared.Offer.the-variants.{Closed}
-use Rattle.notice.specs.NoticeRule.{Notice, readNotice, full}
+use Rattle.notice.specs.NoticeRule.{Notice, readNotice, full, partial, replacement}
 use Rattle.notice_line.specs.declared.Line.{Line}
 use Rattle.notice.proofs.LinesLaws.{ValidFrom}
 use Rattle.notice.proofs.NoticeLaws.{Valid}
@@ -145,9 +146,9 @@ module _ (k c : ℕ) (at : countryOfKey k ≡ Code c) where
 
   not-closed : (n : Notice) → Valid n → n .kind ≢ full → namedBy (n .lines) k ≡ false → closes n k ≡ false
   unfolding closes
-  not-closed n v f e = rw (ne-eqb (n .kind) 1 f) (go (eqb (n .kind) 2) (eqb (n .kind) 4) refl)
+  not-closed n v f e = rw (ne-eqb (n .kind) full f) (go (eqb (n .kind) partial) (eqb (n .kind) replacement) refl)
     where
-      go : (t u : Bool) → eqb (n .kind) 4 ≡ u
+      go : (t u : Bool) → eqb (n .kind) replacement ≡ u
           → cond t (namedBy (n .lines) k) (cond u (inCountry (n .country) (countryOfKey k)) false) ≡ false
       go true u p = e
       go false true p = other-country (n .country) (n .lines) (v .some-lines) (v .named (eqb-true _ _ p)) (v .lines-valid) e
@@ -173,7 +174,7 @@ unfolding applyRefusal
 usable-old ws bytes len e = usable-sound ws (go (eqb (bookRefusal ws) 0) refl e)
   where
     go : (t : Bool) → eqb (bookRefusal ws) 0 ≡ t
-        → cond t (cond (ltb len headerWords) 20 (readBy ws len (readNotice bytes))) (bookRefusal ws) ≡ 0
+        → cond t (cond (ltb len headerWords) bookTooShort (readBy ws len (readNotice bytes))) (bookRefusal ws) ≡ 0
         → bookRefusal ws ≡ 0
     go true p q = eqb-true _ _ p
     go false p q = q
@@ -183,7 +184,7 @@ pub new-sound :
     (ws : List ℕ) (n : Notice) (len : ℕ)
     → sound ws ≡ true
     → Good n
-    → 4 ≤ len
+    → headerWords ≤ len
     → length (newEntries ws n) ≤ held len
     → sound (newBook ws len n) ≡ true
 new-sound ws n len h g four fits =

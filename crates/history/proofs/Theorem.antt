@@ -8,7 +8,7 @@ use native.Mathlib.Omega.{arith}
 use borrow.Author.Tests.{ltb-false, leb-true, eq-eqb, eqb-true}
 use lib.Dec.{eqb, leb, ltb}
 use lib.ListN.{length}
-use Rattle.refusal.specs.Refusal.{receivedEarlier, bookFull}
+use Rattle.refusal.specs.Refusal.{receivedEarlier, bookTooShort, bookFull}
 use Rattle.dial_code.specs.Digits.{digitOf, isDialled}
 use Rattle.rate.specs.OfferWord.{offerOf}
 use Rattle.rate.specs.declared.Offer.the-variants.{Closed}
@@ -64,7 +64,7 @@ module _ (ws : List ℕ) (period : ℕ) (accepted : List Notice) (l : Linked ws 
   -- An apply answers what the machine answers.
   pub same-answer : (bytes : List ℕ) (len : ℕ) → applyRefusal ws bytes len ≡ answers period accepted bytes len
   unfolding applyRefusal answers
-  same-answer bytes len = rw (usable ws (l .sound)) (ap (λ (e : ℕ). cond (ltb len headerWords) 20 e) (by-reading (readNotice bytes)))
+  same-answer bytes len = rw (usable ws (l .sound)) (ap (λ (e : ℕ). cond (ltb len headerWords) bookTooShort e) (by-reading (readNotice bytes)))
     where
       by-reading : (r : Reading) → readBy ws len r ≡ readings period accepted len r
       by-reading (notice n) = same-judgement n len
@@ -72,7 +72,7 @@ module _ (ws : List ℕ) (period : ℕ) (accepted : List Notice) (l : Linked ws 
 
 -- What an accepted apply tells.
 pub record Accepted (ws bytes : List ℕ) (len : ℕ) : Type 0 where
-  pub four : 4 ≤ len
+  pub four : headerWords ≤ len
   pub read : Notice
   pub reads : readNotice bytes ≡ notice read
   pub in-order : receivedOf ws ≤ read .received
@@ -86,11 +86,11 @@ judged-by ws n len = refl
 
 pub accepted-facts : (ws bytes : List ℕ) (len : ℕ) → sound ws ≡ true → applyRefusal ws bytes len ≡ 0 → Accepted ws bytes len
 unfolding applyRefusal
-accepted-facts ws bytes len h e = by-length (ltb len 4) refl (rw (usable ws h) at e)
+accepted-facts ws bytes len h e = by-length (ltb len headerWords) refl (rw (usable ws h) at e)
   where
     by-fit :
         (n : Notice)
-        → 4 ≤ len
+        → headerWords ≤ len
         → readNotice bytes ≡ notice n
         → receivedOf ws ≤ n .received
         → (t : Bool)
@@ -102,7 +102,7 @@ accepted-facts ws bytes len h e = by-length (ltb len 4) refl (rw (usable ws h) a
 
     by-order :
         (n : Notice)
-        → 4 ≤ len
+        → headerWords ≤ len
         → readNotice bytes ≡ notice n
         → (t : Bool)
         → ltb (n .received) (receivedOf ws) ≡ t
@@ -111,13 +111,13 @@ accepted-facts ws bytes len h e = by-length (ltb len 4) refl (rw (usable ws h) a
     by-order n l q true p z = absurd (omega arith)
     by-order n l q false p z = by-fit n l q (ltb-false _ _ p) (leb (length (newEntries ws n)) (held len)) refl z
 
-    by-reading : 4 ≤ len → (r : Reading) → readNotice bytes ≡ r → readBy ws len r ≡ 0 → Accepted ws bytes len
+    by-reading : headerWords ≤ len → (r : Reading) → readNotice bytes ≡ r → readBy ws len r ≡ 0 → Accepted ws bytes len
     by-reading l (notice n) q z = by-order n l q (ltb (n .received) (receivedOf ws)) refl (sym (judged-by ws n len) ∙ z)
     by-reading l (unread e) q z = absurd (omega (arith, notice-refusals bytes e q .0))
 
-    by-length : (t : Bool) → ltb len 4 ≡ t → cond t 20 (readBy ws len (readNotice bytes)) ≡ 0 → Accepted ws bytes len
+    by-length : (t : Bool) → ltb len headerWords ≡ t → cond t bookTooShort (readBy ws len (readNotice bytes)) ≡ 0 → Accepted ws bytes len
     by-length true p z = absurd (omega arith)
-    by-length false p z = by-reading (ltb-false len 4 p) (readNotice bytes) refl z
+    by-length false p z = by-reading (ltb-false len headerWords p) (readNotice bytes) refl z
 
 -- What an accepted apply leaves is the new book.
 pub accepted-words :
@@ -144,7 +144,7 @@ new-linked :
     (ws : List ℕ) (period : ℕ) (accepted : List Notice) (n : Notice) (len : ℕ)
     → Linked ws period accepted
     → Good n
-    → 4 ≤ len
+    → headerWords ≤ len
     → length (newEntries ws n) ≤ held len
     → Linked (newBook ws len n) period (n ∷ accepted)
 unfolding known bookOf

@@ -3,13 +3,13 @@
 use mathlib.Core.Path.{_≡_, refl}
 use mathlib.Core.Bool.{cond}
 use mathlib.Core.List.{List, [], _∷_, _++_}
-use Prim.Native.Nat.{ℕ}
+use Prim.Native.Nat.{ℕ, _+_, _-_, _*_}
 use lib.Dec.{eqb, leb}
 use lib.ListN.{length, drop, replicate}
-use Rattle.refusal.specs.Refusal.{bufferTooShort, timeOutOfRange, noOffer}
+use Rattle.refusal.specs.Refusal.{bookTooShort, bookNotSound, bufferTooShort, timeOutOfRange, noOffer}
 use Rattle.dial_code.specs.Key.{key}
 use Rattle.country_code.specs.Code.{isCodeKey}
-use Rattle.rate.specs.Time.{isReceivedDay}
+use Rattle.rate.specs.Time.{lastReceivedDay, isReceivedDay}
 use Rattle.rate.specs.Price.{rate}
 use Rattle.rate.specs.OfferWord.{offerOf}
 use Rattle.rate.specs.declared.Day.{Day}
@@ -19,7 +19,7 @@ use Rattle.notice_line.specs.LineRule.{lineOf}
 use Rattle.notice.specs.NoticeRule.{full, Notice}
 use Rattle.notice_writing.specs.Layout.{encodeNotice}
 use Rattle.notice_line.specs.declared.Line.{Line}
-use Rattle.book_words.specs.Layout.{entriesOf}
+use Rattle.book_words.specs.Layout.{headerWords, entryWords, mostPeriod, entry, entriesOf, bookOf}
 use Rattle.book.specs.Status.{offerIn}
 use Rattle.lookup.specs.Match.{isStanding}
 use Rattle.book.specs.Answers.{bookRefusal}
@@ -86,32 +86,19 @@ listBytes ws day out =
 -- 1 open from day 100 on, 44 blocked from day 50 on, 7 open from day 10 to 89, 91 open from day 200 on
 some : List ℕ
 some =
-    5
-    ∷ 7
-    ∷ 100
-    ∷ 200
-    ∷ key (1 ∷ [])
-    ∷ 100
-    ∷ 589824000259
-    ∷ key (4 ∷ 4 ∷ [])
-    ∷ 50
-    ∷ 1
-    ∷ key (7 ∷ [])
-    ∷ 10
-    ∷ 259
-    ∷ key (7 ∷ [])
-    ∷ 90
-    ∷ 0
-    ∷ key (9 ∷ 1 ∷ [])
-    ∷ 200
-    ∷ 259
-    ∷ []
+    bookOf (headerWords + 5 * entryWords) 7 100 200
+    (entry (key (1 ∷ [])) 100 589824000259
+    ∷ entry (key (4 ∷ 4 ∷ [])) 50 1
+    ∷ entry (key (7 ∷ [])) 10 259
+    ∷ entry (key (7 ∷ [])) 90 0
+    ∷ entry (key (9 ∷ 1 ∷ [])) 200 259
+    ∷ [])
 
 abbrev on : ℕ → Day
 on n = record { 0 = n }
 
 codes : codesOf (entriesOf some) ≡ key (1 ∷ []) ∷ key (4 ∷ 4 ∷ []) ∷ key (7 ∷ []) ∷ key (9 ∷ 1 ∷ []) ∷ []
-unfolding codesOf entriesOf some key
+unfolding codesOf entriesOf some bookOf key
 codes = refl
 
 -- on day 100, and one day before 7 closes
@@ -120,14 +107,14 @@ lines-on :
     ≡ (lineOf (key (1 ∷ [])) (Open (rate 9000000) 1 1) 0 ∷ lineOf (key (4 ∷ 4 ∷ [])) Blocked 0 ∷ [])
     ∷ (lineOf (key (4 ∷ 4 ∷ [])) Blocked 0 ∷ lineOf (key (7 ∷ [])) (Open (rate 0) 1 1) 0 ∷ [])
     ∷ []
-unfolding standingLines entriesOf some key offerOf
+unfolding standingLines entriesOf some bookOf key offerOf
 lines-on = refl
 
 list-100 : List ℕ
 list-100 = 1 ∷ 100 ∷ 2 ∷ 1 ∷ 1 ∷ 2 ∷ 8 ∷ 0xC0 ∷ 0xA8 ∷ 0xA5 ∷ 0x04 ∷ 1 ∷ 1 ∷ 0 ∷ 2 ∷ 44 ∷ 1 ∷ 0 ∷ []
 
 sent : listOf some (on 100) ≡ list-100
-unfolding listOf list-100 some key offerOf
+unfolding listOf list-100 some bookOf key offerOf
 sent = refl
 
 -- exact room and one byte short; nothing standing on day 9; the last day of a list and the day after
@@ -135,27 +122,27 @@ answers :
     listAnswer some (on 100) 18
     ∷ listAnswer some (on 100) 17
     ∷ listAnswer some (on 9) 0
-    ∷ listAnswer some (on 60000) 28
-    ∷ listAnswer some (on 60001) 28
+    ∷ listAnswer some (on lastReceivedDay) 28
+    ∷ listAnswer some (on (lastReceivedDay + 1)) 28
     ∷ []
-    ≡ listed 0 18 ∷ listed 23 0 ∷ listed 43 0 ∷ listed 0 28 ∷ listed 41 0 ∷ []
-unfolding listAnswer some key isCodeKey offerOf
+    ≡ listed 0 18 ∷ listed bufferTooShort 0 ∷ listed noOffer 0 ∷ listed 0 28 ∷ listed timeOutOfRange 0 ∷ []
+unfolding listAnswer some bookOf key isCodeKey offerOf
 answers = refl
 
--- a book under four words, and one that is not sound, before a day beyond the last; an empty book
+-- a word short of a header, and a book that is not sound, before a day beyond the last; an empty book
 refusals :
-    listAnswer (0 ∷ 7 ∷ 0 ∷ []) (on 60001) 0
-    ∷ listAnswer (0 ∷ 366 ∷ 0 ∷ 0 ∷ []) (on 60001) 0
-    ∷ listAnswer (0 ∷ 7 ∷ 0 ∷ 0 ∷ []) (on 60001) 0
-    ∷ listAnswer (0 ∷ 7 ∷ 0 ∷ 0 ∷ []) (on 60000) 0
+    listAnswer (replicate (headerWords - 1) 0) (on (lastReceivedDay + 1)) 0
+    ∷ listAnswer (bookOf headerWords (mostPeriod + 1) 0 0 []) (on (lastReceivedDay + 1)) 0
+    ∷ listAnswer (bookOf headerWords 7 0 0 []) (on (lastReceivedDay + 1)) 0
+    ∷ listAnswer (bookOf headerWords 7 0 0 []) (on lastReceivedDay) 0
     ∷ []
-    ≡ listed 20 0 ∷ listed 21 0 ∷ listed 41 0 ∷ listed 43 0 ∷ []
-unfolding listAnswer offerOf
+    ≡ listed bookTooShort 0 ∷ listed bookNotSound 0 ∷ listed timeOutOfRange 0 ∷ listed noOffer 0 ∷ []
+unfolding listAnswer bookOf offerOf
 refusals = refl
 
 -- two bytes more than the list, and one too few
 left :
     listBytes some (on 100) (replicate 20 9) ∷ listBytes some (on 100) (replicate 17 9) ∷ []
     ≡ (list-100 ++ (9 ∷ 9 ∷ [])) ∷ replicate 17 9 ∷ []
-unfolding listBytes list-100 some key isCodeKey offerOf
+unfolding listBytes list-100 some bookOf key isCodeKey offerOf
 left = refl

@@ -11,7 +11,7 @@ use borrow.Author.Tests.{eq-eqb, ne-eqb, lt-leb, lt-ltb, le-ltb}
 use lib.Dec.{eqb, leb, ltb}
 use lib.ListN.{length}
 use Rattle.dial_code.proofs.Tests.{below, equal, above, order}
-use Rattle.book_words.specs.Layout.{headerWords, entryWords, mostEntries, countOf, entry, entryAt, entriesFrom, entriesOf}
+use Rattle.book_words.specs.Layout.{headerWords, entryWords, mostEntries, countOf, noEntry, entryAt, entriesFrom, entriesOf}
 use Rattle.lookup.specs.Search.{notAfter, halved, upTo, foundUpTo, lastEntry, ownWord}
 use Rattle.book.specs.Soundness.{sound}
 use Rattle.book.specs.Status.{statusFrom, statusIn}
@@ -149,7 +149,7 @@ found-few ws count k d h e = omega (arith, found-most ws count k d e)
 
 -- The last of some entries, by the test of the code.
 module _ (ws : List ℕ) (n : ℕ) where
-  pub no-last : n ≡ 0 → lastEntry ws n ≡ entry 0 0 0
+  pub no-last : n ≡ 0 → lastEntry ws n ≡ noEntry
   unfolding lastEntry
   no-last h = rw (eq-eqb n 0 h)
 

@@ -22,7 +22,7 @@ use Rattle.country_code.proofs.CodeLaws.{no-first-digit}
 use Rattle.rate.specs.OfferWord.{offerOf}
 use Rattle.rate.specs.declared.Offer.{Offer}
 use Rattle.rate.specs.declared.Offer.the-variants.{Closed, Blocked, Open}
-use Rattle.book_words.specs.Layout.{countOf, entry, entriesOf}
+use Rattle.book_words.specs.Layout.{countOf, noEntry, entriesOf}
 use Rattle.book.specs.Soundness.{headedCount, sound}
 use Rattle.lookup.specs.Search.{upTo, foundUpTo, lastEntry, ownWord, tried, bestFound}
 use Rattle.book.specs.Status.{heldOffer, offerIn}
@@ -215,7 +215,7 @@ module _ (ws : List ℕ) (w d : ℕ) where
   no-entry (suc n) count bound e =
       let k = prefixKey w (suc n) in
       let none : 0 ≡ foundUpTo ws count k d = omega (arith, found-most ws count k d refl) in
-      let closed = sym (closed-offer (entry 0 0 0) k refl) in
+      let closed = sym (closed-offer noEntry k refl) in
       let here : k ≤ bound → tried ws w d (suc n) count bound ≡ answer 0 Closed =
       λ l.
       searched (suc n) count bound k (omega arith) refl l none (sym (no-last ws 0 refl)) closed refl

@@ -2,7 +2,7 @@
 -- other, what it comes upon.
 use mathlib.Core.Path.{_≡_, refl}
 use mathlib.Core.Bool.{Bool, true, false, cond}
-use mathlib.Core.List.{List, [], _∷_}
+use mathlib.Core.List.{List, [], _∷_, _++_}
 use Prim.Native.Nat.{ℕ, zero, suc, _+_, _-_, _*_, _/_, min}
 use lib.Dec.{eqb, leb, ltb}
 use Rattle.dial_code.specs.Digits.{mostDigits}
@@ -10,7 +10,7 @@ use Rattle.dial_code.specs.Key.{key, prefixKey}
 use Rattle.rate.specs.Price.{rate}
 use Rattle.rate.specs.OfferWord.{offerOf}
 use Rattle.rate.specs.declared.Offer.the-variants.{Closed, Blocked, Open}
-use Rattle.book_words.specs.Layout.{headerWords, entryWords, entry, entryAt, bookOf}
+use Rattle.book_words.specs.Layout.{headerWords, entryWords, header, wordsOfHeader, entry, noEntry, entryAt, wordsOf, bookOf}
 use Rattle.book.specs.Soundness.{headedCount}
 use Rattle.book.specs.Status.{heldOffer}
 use Rattle.lookup.specs.Match.{answer, standing}
@@ -46,7 +46,7 @@ foundUpTo ws count k d = halved (upTo ws k d) count 0 count
 -- The last of the first n entries, and one of zeros where there is none.
 unfoldable pub lastEntry : List ℕ → ℕ → Entry
 unfolding entryAt
-lastEntry ws n = cond (eqb n 0) (entry 0 0 0) (entryAt ws (headerWords + (n - 1) * entryWords))
+lastEntry ws n = cond (eqb n 0) noEntry (entryAt ws (headerWords + (n - 1) * entryWords))
 
 -- The offer word of an entry where it is the code's, and closed where it is another's.
 unfoldable pub ownWord : Entry → ℕ → ℕ
@@ -93,14 +93,14 @@ k2 = key (2 ∷ 3 ∷ 4 ∷ 8 ∷ [])
 
 -- P1's book
 one : List ℕ
-one = 1 ∷ 7 ∷ 100 ∷ 100 ∷ k1 ∷ 100 ∷ 589824000259 ∷ []
+one = bookOf (headerWords + entryWords) 7 100 100 (entry k1 100 589824000259 ∷ [])
 
 -- 2348 blocked from day 105 on, 23480 open from day 100 to 109: in order, and the other way round
 three : List ℕ
-three = bookOf 14 7 100 110 (entry k2 105 1 ∷ entry k1 100 259 ∷ entry k1 110 0 ∷ [])
+three = bookOf (headerWords + 3 * entryWords + 1) 7 100 110 (entry k2 105 1 ∷ entry k1 100 259 ∷ entry k1 110 0 ∷ [])
 
 turned : List ℕ
-turned = bookOf 14 7 100 110 (entry k1 110 0 ∷ entry k1 100 259 ∷ entry k2 105 1 ∷ [])
+turned = bookOf (headerWords + 3 * entryWords + 1) 7 100 110 (entry k1 110 0 ∷ entry k1 100 259 ∷ entry k2 105 1 ∷ [])
 
 -- the day before, the day itself, keys before and behind; none to search
 one-found :
@@ -111,7 +111,7 @@ one-found :
     ∷ foundUpTo one 0 k1 100
     ∷ []
     ≡ 0 ∷ 1 ∷ 0 ∷ 1 ∷ 0 ∷ []
-unfolding foundUpTo one k1 k2 key
+unfolding foundUpTo one bookOf k1 k2 key
 one-found = refl
 
 -- the entries in order, and two of them that a wrong order hides
@@ -143,7 +143,8 @@ own-words = refl
 -- 2 open from day 100 on, 2348 blocked from day 105 on, 23480 open from day 100 to 104
 layered : List ℕ
 layered =
-    bookOf 16 7 100 105 (entry (key (2 ∷ [])) 100 260 ∷ entry k2 105 1 ∷ entry k1 100 259 ∷ entry k1 105 0 ∷ [])
+    bookOf (headerWords + 4 * entryWords) 7 100 105
+    (entry (key (2 ∷ [])) 100 260 ∷ entry k2 105 1 ∷ entry k1 100 259 ∷ entry k1 105 0 ∷ [])
 
 -- 234806 and 23481 on some days, and a word that is no key
 best-found :
@@ -170,7 +171,7 @@ layers-found :
     ∷ bestFound layered (key (2 ∷ 3 ∷ 4 ∷ 7 ∷ 0 ∷ [])) 105
     ∷ bestFound layered (key (1 ∷ 1 ∷ [])) 105
     ∷ bestFound [] k1 105
-    ∷ bestFound (2 ∷ 7 ∷ 100 ∷ 100 ∷ k1 ∷ 100 ∷ 259 ∷ []) k1 100
+    ∷ bestFound (wordsOfHeader (header 2 7 100 100) ++ wordsOf (entry k1 100 259 ∷ [])) k1 100
     ∷ bestFound turned k1 109
     ∷ bestFound turned 0 109
     ∷ []

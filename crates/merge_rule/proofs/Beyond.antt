@@ -2,8 +2,9 @@
 use mathlib.Core.Path.{_≡_, refl, ap, sym, _∙_}
 use mathlib.Core.Bool.{true, true≢false}
 use mathlib.Core.List.{List, [], _∷_}
-use Prim.Native.Nat.{ℕ, suc, _≤_, _<_}
+use Prim.Native.Nat.{ℕ, suc, _+_, _≤_, _<_}
 use native.Mathlib.Omega.{arith}
+use Rattle.rate.specs.Time.{lastDay}
 use Rattle.country_code.specs.Code.{isCodeKey}
 use Rattle.dial_code.specs.Key.{keysEnd}
 use Rattle.dial_code.proofs.Tests.{Order, below, equal, above, order}
@@ -17,9 +18,9 @@ use Rattle.merge_rule.proofs.PassKeys.{Keys}
 
 -- a list that is sound after key k, from a day on that no entry of key k has
 abbrev pub Beyond : ℕ → List Entry → Type 0
-Beyond k es = SoundFrom k 65001 0 es
+Beyond k es = SoundFrom k (lastDay + 1) 0 es
 
-beyond-key : {k : ℕ} {e : Entry} → Allowed e → After k 65001 0 e → (k < e .key) × (e .offer ≡ 0 → ⊥)
+beyond-key : {k : ℕ} {e : Entry} → Allowed e → After k (lastDay + 1) 0 e → (k < e .key) × (e .offer ≡ 0 → ⊥)
 beyond-key a (same q m n) = absurd (omega (arith, a .day-most))
 beyond-key a (next l n) = (l, n)
 
@@ -79,7 +80,7 @@ unfolding SoundFrom
 sound-beyond [] s = tt
 sound-beyond (e ∷ es) s = (opens (s .0), s .1, s .2)
   where
-    opens : After 0 0 0 e → After 0 65001 0 e
+    opens : After 0 0 0 e → After 0 (lastDay + 1) 0 e
     opens (same q m z) = absurd (true≢false (sym (s .1 .code) ∙ ap isCodeKey q ∙ no-first-digit 0 (omega arith)))
     opens (next l z) = next l z
 
@@ -110,7 +111,7 @@ after-beyond a n o k (e ∷ es) h s =
     (λ q. after-beyond (e .key) (suc (e .day)) (e .offer) k es q (s .2))
     (λ q. (opens (s .0) q, s .1, s .2))
   where
-    opens : After a n o e → (e .key ≡ k → ⊥) → After k 65001 0 e
+    opens : After a n o e → (e .key ≡ k → ⊥) → After k (lastDay + 1) 0 e
     opens (same q m z) r = absurd (r (q ∙ h))
     opens (next q z) r = next (omega arith) z
 
@@ -119,4 +120,4 @@ abbrev pub behind : ℕ → List Entry → List Entry
 behind k es = restAfter k (restFrom k es)
 
 pub behind-beyond : (a k : ℕ) (es : List Entry) → a < k → Beyond a es → Beyond k (behind k es)
-behind-beyond a k es h s = after-beyond k 0 0 k (restFrom k es) refl (from-begins a 65001 0 k es h s)
+behind-beyond a k es h s = after-beyond k 0 0 k (restFrom k es) refl (from-begins a (lastDay + 1) 0 k es h s)

@@ -2,10 +2,11 @@
 use mathlib.Core.Path.{_≡_, refl, ap, sym, subst, _∙_}
 use mathlib.Core.Bool.{Bool, true, false, true≢false}
 use mathlib.Core.List.{List, [], _∷_, _++_, append-nil}
-use Prim.Native.Nat.{ℕ, suc, _≤_, _<_}
+use Prim.Native.Nat.{ℕ, suc, _+_, _≤_, _<_}
 use native.Mathlib.Omega.{arith}
 use borrow.Author.Tests.{eq-eqb, ne-eqb, ltb-false, le-ltb}
 use lib.Dec.{eqb, ltb}
+use Rattle.rate.specs.Time.{lastDay}
 use Rattle.dial_code.proofs.Tests.{and-left-true, and-left-false, and-right-false}
 use Rattle.rate.specs.OfferWord.{offerOf}
 use Rattle.book.specs.Soundness.{isOfferWord, soundEntries}
@@ -35,7 +36,7 @@ stops day e (f ∷ fs) h s =
       | next l z ↦ and-left-false (ltb (f .day) day) (ne-eqb (e .key) (f .key) (λ (q : e .key ≡ f .key). omega arith))
     ]
 
-module _ (closes : ℕ → Bool) (day : ℕ) (most : day ≤ 65000) where
+module _ (closes : ℕ → Bool) (day : ℕ) (most : day ≤ lastDay) where
   -- The next entry follows what is written so far, or it goes: its code is closed on a day not after its own.
   data Head (a n o : ℕ) (e : Entry) : Type 0 where
     fits : After a n o e → Head a n o e
@@ -160,7 +161,7 @@ unfoldable pub AllAllowed : List Entry → Type 0
 AllAllowed [] = Unit {0}
 AllAllowed (c ∷ cs) = Allowed c × AllAllowed cs
 
-module _ (end : ℕ) (closes : ℕ → Bool) (day : ℕ) (most : day ≤ 65000) where
+module _ (end : ℕ) (closes : ℕ → Bool) (day : ℕ) (most : day ≤ lastDay) where
   merged-beyond :
       (a : ℕ) (es cs : List Entry)
       → Beyond a es
@@ -170,17 +171,17 @@ module _ (end : ℕ) (closes : ℕ → Bool) (day : ℕ) (most : day ≤ 65000) 
   unfolding merged SoundFrom Rising AllAllowed
   merged-beyond a es [] s r p =
       subst (Beyond a) (append-nil (gapBelow end closes day es))
-      (gap-sound closes day most a 65001 0 end es [] (waits closes day most a 65001 0 es s) tt tt)
+      (gap-sound closes day most a (lastDay + 1) 0 end es [] (waits closes day most a (lastDay + 1) 0 es s) tt tt)
   merged-beyond a es (c ∷ cs) s r p =
       let from = restFrom (c .key) es in
       let rest = merged end closes day (behind (c .key) es) cs in
       let t = merged-beyond (c .key) (behind (c .key) es) cs (behind-beyond a (c .key) es (r .0) s) (r .2) (p .1) in
-      let g = group-sound c rest (p .0) t (c .key) 0 0 from refl (omega arith) (from-begins a 65001 0 (c .key) es (r .0) s) in
+      let g = group-sound c rest (p .0) t (c .key) 0 0 from refl (omega arith) (from-begins a (lastDay + 1) 0 (c .key) es (r .0) s) in
       subst (Beyond a) (sym (in-parts end closes day es cs c))
-      (gap-sound closes day most a 65001 0 (c .key) es (listedGroup c 0 from ++ rest)
-      (waits closes day most a 65001 0 es s)
+      (gap-sound closes day most a (lastDay + 1) 0 (c .key) es (listedGroup c 0 from ++ rest)
+      (waits closes day most a (lastDay + 1) 0 es s)
       g
-      (begins-sound a 65001 0 (c .key) (listedGroup c 0 from ++ rest) (r .0) g))
+      (begins-sound a (lastDay + 1) 0 (c .key) (listedGroup c 0 from ++ rest) (r .0) g))
 
 -- The entries of a new book are sound, where the old ones are and the changes are allowed.
 pub merged-sound :
@@ -188,7 +189,7 @@ pub merged-sound :
     → soundEntries es ≡ true
     → Rising 0 end cs
     → AllAllowed cs
-    → day ≤ 65000
+    → day ≤ lastDay
     → soundEntries (merged end closes day es cs) ≡ true
 merged-sound end closes day es cs s r p most =
     from-sound (merged end closes day es cs)

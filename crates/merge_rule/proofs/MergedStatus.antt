@@ -3,10 +3,11 @@
 use mathlib.Core.Path.{_≡_, refl, ap, sym, subst, _∙_}
 use mathlib.Core.Bool.{Bool, true, false, cond, _&&_}
 use mathlib.Core.List.{List, [], _∷_, _++_}
-use Prim.Native.Nat.{ℕ, _≤_, _<_}
+use Prim.Native.Nat.{ℕ, _+_, _≤_, _<_}
 use native.Mathlib.Omega.{arith}
 use borrow.Author.Tests.{eq-eqb, ne-eqb}
 use lib.Dec.{eqb, leb}
+use Rattle.rate.specs.Time.{lastDay}
 use Rattle.dial_code.proofs.Tests.{below, equal, above, order}
 use Rattle.book.specs.Soundness.{soundEntries}
 use Rattle.book.specs.Status.{statusFrom, statusIn}
@@ -75,7 +76,7 @@ module _ (end : ℕ) (closes : ℕ → Bool) (day : ℕ) where
       → statusFrom 0 (gapBelow end closes day es) x d ≡ cond (closes x && leb day d) 0 (statusFrom 0 es x d)
   none-left a es x d s u =
       elim (order x end) [
-        | below h ↦ gap-status closes day a 65001 0 end es x d h s
+        | below h ↦ gap-status closes day a (lastDay + 1) 0 end es x d h s
         | equal h ↦ past (omega arith)
         | above h ↦ past (omega arith)
       ]
@@ -124,7 +125,7 @@ module _ (end : ℕ) (closes : ℕ → Bool) (day : ℕ) where
         parted x d
         ∙ keep 0 (gapBelow (c .key) closes day es) (group ++ rest) x d
         (keys-append (Apart x) group rest (keys-group (Apart x) c 0 from n) (left-without x (omega arith)))
-        ∙ gap-status closes day a 65001 0 (c .key) es x d h s
+        ∙ gap-status closes day a (lastDay + 1) 0 (c .key) es x d h s
         ∙ ap (λ (f : Found). outcome closes day f x d (statusFrom 0 es x d))
         (sym (no-change x (c ∷ cs) (n, other-lines x (omega arith))))
 
@@ -138,7 +139,7 @@ module _ (end : ℕ) (closes : ℕ → Bool) (day : ℕ) where
         ∙ skip 0 (gapBelow (c .key) closes day es) (group ++ rest) (c .key) d
         (keys-below (Apart (c .key)) closes day (c .key) es (λ (k : ℕ) (m : k < c .key) (q : k ≡ c .key). omega arith))
         ∙ keep 0 group rest (c .key) d (left-without (c .key) (omega arith))
-        ∙ group-status c d 0 0 0 from (from-begins a 65001 0 (c .key) es l s)
+        ∙ group-status c d 0 0 0 from (from-begins a (lastDay + 1) 0 (c .key) es l s)
         ∙ ap (λ (w : ℕ). cond (leb (c .day) d) (c .offer) w) (from-status 0 (c .key) es (c .key) d (omega arith))
         ∙ ap (λ (f : Found). outcome closes day f (c .key) d (statusFrom 0 es (c .key) d))
         (sym (change-here (c .key) c cs refl))

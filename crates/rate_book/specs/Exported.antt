@@ -8,7 +8,7 @@ use Rattle.rate.specs.declared.Day.{Day}
 use Rattle.rate.specs.declared.Moment.{Moment}
 use Rattle.rate.specs.declared.Offer.{Offer}
 use Rattle.rate.specs.declared.Offer.the-variants.{Closed, Blocked, Open}
-use Rattle.book_words.specs.Layout.{headerWords, entryWords, mostEntries, held}
+use Rattle.book_words.specs.Layout.{headerWords, entryWords, mostEntries, mostWords, held}
 use Rattle.lookup.specs.Match.{answer}
 use Rattle.lookup.specs.declared.Lookup.{Lookup}
 use Rattle.lookup.specs.declared.Lookup.the-variants.{Found, Refused}
@@ -58,11 +58,13 @@ abbrev pub listOf : Listed → RateBookList
 listOf l = record { refusal = l .refusal; length = l .length }
 
 -- no entries, one, the most, and more; such a book holds them
-words : wordsFor 0 ∷ wordsFor 1 ∷ wordsFor 65535 ∷ wordsFor 65536 ∷ [] ≡ 4 ∷ 7 ∷ 196609 ∷ 196609 ∷ []
+words :
+    wordsFor 0 ∷ wordsFor 1 ∷ wordsFor mostEntries ∷ wordsFor (mostEntries + 1) ∷ []
+    ≡ headerWords ∷ (headerWords + entryWords) ∷ mostWords ∷ mostWords ∷ []
 unfolding wordsFor
 words = refl
 
-enough : held (wordsFor 0) ∷ held (wordsFor 1) ∷ held (wordsFor 65535) ∷ [] ≡ 0 ∷ 1 ∷ 65535 ∷ []
+enough : held (wordsFor 0) ∷ held (wordsFor 1) ∷ held (wordsFor mostEntries) ∷ [] ≡ 0 ∷ 1 ∷ mostEntries ∷ []
 unfolding wordsFor held
 enough = refl
 

@@ -21,7 +21,7 @@ use Rattle.notice.specs.declared.Summary.{Summary}
 use Rattle.notice.proofs.Checking as checking
 use Rattle.notice.proofs.LinesLaws.{ValidFrom}
 use Rattle.notice.proofs.NoticeLaws.{Valid, notice-valid}
-use Rattle.book_words.specs.Layout.{headerWords, entry, entriesFrom, entriesOf, periodOf, latestOf}
+use Rattle.book_words.specs.Layout.{headerWords, mostPeriod, entry, entriesFrom, entriesOf, periodOf, latestOf}
 use Rattle.book_words.specs.declared.Entry.{Entry}
 use Rattle.book.specs.Soundness.{sound, soundEntries}
 use Rattle.book.specs.Status.{statusIn}
@@ -151,7 +151,7 @@ module _ (ws : List ℕ) (m : Summary) (n : Notice) (h : sound ws ≡ true) (v :
   late : latestOf ws ≤ lastDay
   late = sound-book ws h .header .latest-most
 
-  few : periodOf ws ≤ 365
+  few : periodOf ws ≤ mostPeriod
   few = sound-book ws h .header .period-most
 
   effective-by-plan : (l : Line) → effectiveBy plan (given (inBook ws)) l ≡ effective (periodOf ws) (inBook ws) n l

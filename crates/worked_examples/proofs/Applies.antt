@@ -2,7 +2,7 @@
 use mathlib.Core.Path.{_≡_, refl, ap, _∙_}
 use mathlib.Core.Bool.{true}
 use mathlib.Core.List.{List, [], _∷_, map}
-use Prim.Native.Nat.{ℕ, _≤_, _<_}
+use Prim.Native.Nat.{ℕ, _+_, _*_, _≤_, _<_}
 use native.Mathlib.Omega.{arith}
 use borrow.Author.Tests.{le-ltb, le-leb, eq-eqb}
 use lib.ListN.{length}
@@ -17,7 +17,7 @@ use Rattle.rate.specs.Charging.{chargeOf}
 use Rattle.rate.specs.declared.Offer.the-variants.{Closed, Open}
 use Rattle.rate.specs.declared.Charged.the-variants as charged
 use Rattle.notice.specs.NoticeRule.{Notice, notice, readNotice, readHeader}
-use Rattle.book_words.specs.Layout.{held}
+use Rattle.book_words.specs.Layout.{headerWords, entryWords, held}
 use Rattle.lookup.specs.Match.{answer, matched}
 use Rattle.book.specs.Answers.{freshRefusal, freshBook}
 use Rattle.lookup.specs.Lookup.{lookup}
@@ -37,10 +37,10 @@ use Rattle.worked_examples.proofs.Entries.{known-entries1, known-entrie
 abbrev pub apply : List ℕ → List ℕ → Apply
 apply bytes new = record { bytes = bytes; new = new }
 
--- a fresh book of four words or more, of notice period 7, is not refused
-fresh-taken : (start : ℕ) → 4 ≤ start → freshRefusal start 7 ≡ 0
+-- a fresh book with the words of a header, of notice period 7, is not refused
+fresh-taken : (start : ℕ) → headerWords ≤ start → freshRefusal start 7 ≡ 0
 unfolding freshRefusal
-fresh-taken start h = rw (le-ltb start 4 h)
+fresh-taken start h = rw (le-ltb start headerWords h)
 
 -- 234806121212 as it is dialled, and its digits
 abbrev pub dialled : List ℕ
@@ -75,9 +75,9 @@ unfolding chargeOf
 p3-call duration h = rw (machine2 .0, le-leb duration 604800 h)
 
 -- no bytes do not read
-unread-empty : (len : ℕ) → 4 ≤ len → answers 7 [] [] len ≡ 1
+unread-empty : (len : ℕ) → headerWords ≤ len → answers 7 [] [] len ≡ 1
 unfolding answers readNotice readHeader readNumber
-unread-empty len h = rw (le-ltb len 4 h)
+unread-empty len h = rw (le-ltb len headerWords h)
 
 -- an accepted notice is appended
 one-more :
@@ -99,16 +99,16 @@ unfolding known changeOf effective someEarlier lineFor namedBy closes closing la
     matched
 latest4 = refl
 
-module _ (start : ℕ) (s : 4 ≤ start) (new : List ℕ) where
+module _ (start : ℕ) (s : headerWords ≤ start) (new : List ℕ) where
   -- P1 in a fresh book answers 0 1 100 100, wherever the new book holds its entry.
-  p1-taken : 7 ≤ length new → applyRefusal (freshBook start 7) p1 (length new) ≡ 0
+  p1-taken : headerWords + entryWords ≤ length new → applyRefusal (freshBook start 7) p1 (length new) ≡ 0
   unfolding bookLeft acceptedBy
   p1-taken l =
       fresh-taken-exactly start 7 (fresh-taken start s) [] p1 (length new) .1
       (n1, omega arith, reads1, omega arith, rw known-entries1 (fits-held 1 (length new) (omega arith) (omega arith) l))
 
   pub p1-answer :
-      7 ≤ length new
+      headerWords + entryWords ≤ length new
       → applyAnswer (freshBook start 7) p1 (length new) ≡ record { refusal = 0; entries = 1; received = 100; latest = 100 }
   unfolding bookLeft acceptedBy
   p1-answer l =
@@ -117,7 +117,7 @@ module _ (start : ℕ) (s : 4 ≤ start) (new : List ℕ) where
 
   -- No bytes answer 1 0 0 0.
   pub no-input :
-      4 ≤ length new
+      headerWords ≤ length new
       → applyAnswer (freshBook start 7) [] (length new) ≡ record { refusal = 1; entries = 0; received = 0; latest = 0 }
   unfolding applyAnswer
   no-input l = rw refused
@@ -128,7 +128,7 @@ module _ (start : ℕ) (s : 4 ≤ start) (new : List ℕ) where
           ∙ unread-empty (length new) l
 
 -- P4 after P2, from a fresh book, where the new book of P2 holds its two entries.
-module _ (start : ℕ) (s : 4 ≤ start) (new2 : List ℕ) (l2 : 10 ≤ length new2) where
+module _ (start : ℕ) (s : headerWords ≤ start) (new2 : List ℕ) (l2 : headerWords + 2 * entryWords ≤ length new2) where
   abbrev pub after2 : List ℕ
   after2 = bookLeft (freshBook start 7) (apply p2 new2 ∷ [])
 
@@ -142,7 +142,7 @@ module _ (start : ℕ) (s : 4 ≤ start) (new2 : List ℕ) (l2 : 10 ≤ length n
   p2-accepted = one-more [] n2 p2 new2 p2-taken reads2
 
   -- P4 is taken wherever the new book holds five entries, and answers 0 5 110 110.
-  p4-taken : (len : ℕ) → 19 ≤ len → applyRefusal after2 p4 len ≡ 0
+  p4-taken : (len : ℕ) → headerWords + 5 * entryWords ≤ len → applyRefusal after2 p4 len ≡ 0
   p4-taken len h =
       fresh-taken-exactly start 7 (fresh-taken start s) (apply p2 new2 ∷ []) p4 len .1 (
         n4,
@@ -154,7 +154,7 @@ module _ (start : ℕ) (s : 4 ≤ start) (new2 : List ℕ) (l2 : 10 ≤ length n
 
   pub p4-answer :
       (new4 : List ℕ)
-      → 19 ≤ length new4
+      → headerWords + 5 * entryWords ≤ length new4
       → applyAnswer after2 p4 (length new4) ≡ record { refusal = 0; entries = 5; received = 110; latest = 110 }
   p4-answer new4 h =
       fresh-accepted-answer start 7 (fresh-taken start s) (apply p2 new2 ∷ []) (apply p4 new4) n4 reads4
@@ -162,7 +162,7 @@ module _ (start : ℕ) (s : 4 ≤ start) (new2 : List ℕ) (l2 : 10 ≤ length n
       ∙ rw p2-accepted (λ i. record { refusal = 0; entries = length (known-entries4 i); received = 110; latest = latest4 i })
 
   -- With room for four entries it gives 30.
-  pub p4-full : (len : ℕ) → 4 ≤ len → len < 19 → applyRefusal after2 p4 len ≡ bookFull
+  pub p4-full : (len : ℕ) → headerWords ≤ len → len < headerWords + 5 * entryWords → applyRefusal after2 p4 len ≡ bookFull
   p4-full len l h =
       fresh-full-exactly start 7 (fresh-taken start s) (apply p2 new2 ∷ []) p4 len .1 (
         n4,
@@ -183,7 +183,7 @@ module _ (start : ℕ) (s : 4 ≤ start) (new2 : List ℕ) (l2 : 10 ≤ length n
       claim start 7 (fresh-taken start s) (apply p2 new2 ∷ []) .lookups dialled (day 99) is-dialled refl
       ∙ rw (p2-accepted, machine2 .0)
 
-  module _ (new4 : List ℕ) (l4 : 19 ≤ length new4) where
+  module _ (new4 : List ℕ) (l4 : headerWords + 5 * entryWords ≤ length new4) where
     abbrev pub both : List Apply
     both = apply p2 new2 ∷ apply p4 new4 ∷ []
 
