@@ -44,12 +44,6 @@ unfolding wordsOf
 length-words [] = refl
 length-words (e ∷ es) = omega (arith, length-words es)
 
--- Entries after others, and their words.
-pub words-on : (es fs : List Entry) → wordsOf (es ++ fs) ≡ wordsOf es ++ wordsOf fs
-unfolding wordsOf
-words-on [] fs = refl
-words-on (e ∷ es) fs = ap (λ (ws : List ℕ). e .key ∷ e .day ∷ e .offer ∷ ws) (words-on es fs)
-
 -- The words of a book of so many words, with a header and entries.
 module _ (len period received latest : ℕ) (es : List Entry) where
   pub book-words : bookOf len period received latest es
