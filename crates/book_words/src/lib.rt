@@ -10,6 +10,11 @@ pub const HEADER_WORDS: usize = 4;
 
 pub const ENTRY_WORDS: usize = 3;
 
+// Where an entry's words after its key stand.
+pub const DAY_WORD: usize = 1;
+
+pub const OFFER_WORD: usize = 2;
+
 pub const MOST_ENTRIES: usize = 65_535;
 
 // The words before the entries: how many entries there are, the notice period, the last received day and the latest effective day.
@@ -42,14 +47,14 @@ pub fn entry_at(words: &[u64], at: u32) -> Entry
     if from + ENTRY_WORDS <= words.len() {
         return Entry {
             key: words[from],
-            day: words[from + 1],
-            offer: words[from + 2],
+            day: words[from + DAY_WORD],
+            offer: words[from + OFFER_WORD],
         };
     }
     Entry {
         key: word_at(words, from),
-        day: word_at(words, from + 1),
-        offer: word_at(words, from + 2),
+        day: word_at(words, from + DAY_WORD),
+        offer: word_at(words, from + OFFER_WORD),
     }
 }
 
@@ -63,7 +68,7 @@ pub fn key_at(words: &[u64], at: u32) -> u64
 pub fn day_at(words: &[u64], at: u32) -> u64
     ensures { λ r. ⌜ r ≡ entryAt (now (words .entry)) at .day ⌝ }
 {
-    word_at(words, at as usize + 1)
+    word_at(words, at as usize + DAY_WORD)
 }
 
 // Sets the word at a place, where there is one.
@@ -82,8 +87,8 @@ pub fn write_entry(words: &mut [u64], at: u32, e: Entry)
     let from = at as usize;
     if from + ENTRY_WORDS <= words.len() {
         words[from] = e.key;
-        words[from + 1] = e.day;
-        words[from + 2] = e.offer;
+        words[from + DAY_WORD] = e.day;
+        words[from + OFFER_WORD] = e.offer;
     }
 }
 

@@ -1,7 +1,7 @@
 -- The merge as a whole, for any words and bytes: what it answers, and the words that it leaves.
 use mathlib.Core.List.{List}
 use mathlib.Core.Path.{_≡_}
-use Prim.Native.Nat.{ℕ, _+_, _*_, _≤_, min}
+use Prim.Native.Nat.{ℕ, _+_, _-_, _*_, _≤_, min}
 use lib.ListN.{length}
 use Rattle.dial_code.specs.Key.{keysEnd}
 use Rattle.notice.specs.NoticeRule.{mostLines}
@@ -44,22 +44,22 @@ unfoldable pub mergedLeaves : List ℕ → Plan → List ℕ → List ℕ → �
 unfolding mergedBy
 mergedLeaves ws p marks s start lines new = putEntries new 0 (mergedBy ws p marks (sent s start lines))
 
--- A place in the old entries: its numbers stay small.
-abbrev pub stands : Place → Type 0
-stands from =
-    (from .at + from .left * entryWords ≤ mostWords) × (from .count + 2 * from .left ≤ mostMerged)
+-- A place in the old entries: they are there, and its numbers stay small.
+abbrev pub stands : List ℕ → Place → Type 0
+stands ws from =
+    (from .left * entryWords ≤ min mostWords (length ws) - from .at) × (from .count + 2 * from .left ≤ mostMerged)
 
 -- What a pass over old entries comes to: from one place to another it has put some entries, and leaves the rest.
 pub record Passed (ws : List ℕ) (from to : Place) (put rest : List Entry) : Type 0 where
   pub counted : to .count ≡ from .count + length put
-  pub stands : to .at + to .left * entryWords ≤ mostWords
+  pub stands : to .left * entryWords ≤ min mostWords (length ws) - to .at
   pub fewer : to .left ≤ from .left
   pub left : entriesFrom ws (to .at) (to .left) ≡ rest
 
 -- A pass over the entries of a listed code.
 pub record PassedListed (ws : List ℕ) (from : Place) (to : Kept) (change : Entry) (es : List Entry) : Type 0 where
   pub counted : to .count ≡ from .count + length (keptOf change es)
-  pub stands : to .at + to .left * entryWords ≤ mostWords
+  pub stands : to .left * entryWords ≤ min mostWords (length ws) - to .at
   pub fewer : to .left ≤ from .left
   pub left : entriesFrom ws (to .at) (to .left) ≡ restAfter (change .key) es
   pub status : to .status ≡ statusOf change 0 es

@@ -2,9 +2,9 @@
 // lines stand the entries of codes that the notice does not list, and at each line those of the line's code.
 ghost use mathlib.Core.Path.{_≡_};
 ghost use mathlib.Core.List.{[], _∷_};
-ghost use Prim.Native.Nat.{_+_, _≤_, min};
+ghost use Prim.Native.Nat.{_+_, _-_, _*_, _≤_, min};
 ghost use lib.ListN.{length};
-ghost use Rattle.book_words.specs.Layout.{entriesFrom, putEntries};
+ghost use Rattle.book_words.specs.Layout.{entryWords, entryAt, entriesFrom, putEntries};
 ghost use Rattle.effect.specs.Closings.{closesBy};
 ghost use Rattle.merge_rule.specs.Passes.{goesOn, unlistedAs, gapBelow, restFrom, listedGroup, keptOf, restAfter, lineEntries, lineRest};
 ghost use Rattle.merge.specs.Merge.{mostMerged, stands, Passed, PassedListed, mergedAnswer, mergedLeaves};
@@ -51,14 +51,28 @@ fn put(new: &mut [u64], count: usize, e: Entry)
     );
 }
 
+// The entry at a place of the old book, all of whose words are there.
+fn old_entry(old: &[u64], at: u32) -> Entry
+    requires { ⌜ at + entryWords ≤ length (now old) ⌝ }
+    ensures { λ r. ⌜ r ≡ entryAt (now (old .entry)) at ⌝ }
+{
+    let from = at as usize;
+    Entry {
+        key: old[from],
+        day: old[from + book_words::DAY_WORD],
+        offer: old[from + book_words::OFFER_WORD],
+    }
+}
+
 // Whether the entry after one is of the same code and before a day.
 fn goes_on(old: &[u64], at: u32, left: usize, e: Entry, day: u64) -> bool
+    requires { ⌜ left * entryWords ≤ length (now old) - at ⌝ }
     ensures { λ r. ⌜ r ≡ goesOn day e (entriesFrom (now (old .entry)) at left) ⌝ }
 {
     if left == 0 {
         return false;
     }
-    let f = book_words::entry_at(old, at);
+    let f = old_entry(old, at);
     if e.key != f.key {
         return false;
     }
@@ -77,7 +91,7 @@ fn put_unlisted(
     new: &mut [u64],
     count: usize,
 ) -> usize
-    requires { ⌜ count + 2 ≤ mostMerged ⌝ }
+    requires { ⌜ (count + 2 ≤ mostMerged) × (left * entryWords ≤ length (now old) - at) ⌝ }
     ensures { λ r. ⌜ r ≡ count + length (unlistedAs closed day e (entriesFrom (now (old .entry)) at left)) ⌝ }
     ensures { λ _. ⌜ now (new .exit) ≡ putEntries (now (new .entry)) count (unlistedAs closed day e
         (entriesFrom (now (old .entry)) at left)) ⌝ }
@@ -115,7 +129,7 @@ fn pass_unlisted(
     marks: &[u8; 1000],
     new: &mut [u64],
 ) -> Place
-    requires { ⌜ stands from ⌝ }
+    requires { ⌜ stands (now old) from ⌝ }
     ensures { λ r. ⌜ Passed (now (old .entry)) from r (gapBelow below (closesBy plan (now (marks .entry))) (plan .closing)
         (entriesFrom (now (old .entry)) (from .at) (from .left))) (restFrom below (entriesFrom (now (old .entry)) (from .at)
         (from .left))) ⌝ }
@@ -128,7 +142,7 @@ fn pass_unlisted(
     let day = plan.closing;
     let mut alike = effect::closed_anyway(plan);
     while 0 < left {
-        let e = book_words::entry_at(old, at);
+        let e = old_entry(old, at);
         if below <= e.key {
             return Place { at, left, count };
         }
@@ -145,7 +159,7 @@ fn pass_unlisted(
 
 // Keeps the entries of a listed code that stand before its line's effective day.
 fn keep_listed(old: &[u64], from: Place, change: Entry, new: &mut [u64]) -> Kept
-    requires { ⌜ stands from ⌝ }
+    requires { ⌜ stands (now old) from ⌝ }
     ensures { λ r. ⌜ PassedListed (now (old .entry)) from r change (entriesFrom (now (old .entry)) (from .at) (from .left)) ⌝ }
     ensures { λ _. ⌜ now (new .exit) ≡ putEntries (now (new .entry)) (from .count) (keptOf change
         (entriesFrom (now (old .entry)) (from .at) (from .left))) ⌝ }
@@ -155,7 +169,7 @@ fn keep_listed(old: &[u64], from: Place, change: Entry, new: &mut [u64]) -> Kept
     let mut count = from.count;
     let mut status: u64 = 0;
     while 0 < left {
-        let e = book_words::entry_at(old, at);
+        let e = old_entry(old, at);
         if e.key != change.key {
             return Kept {
                 at,
@@ -182,7 +196,7 @@ fn keep_listed(old: &[u64], from: Place, change: Entry, new: &mut [u64]) -> Kept
 
 // Passes the entries of a listed code, and puts its line's change after those that stay.
 fn pass_listed(old: &[u64], from: Place, change: Entry, new: &mut [u64]) -> Place
-    requires { ⌜ stands from ⌝ }
+    requires { ⌜ stands (now old) from ⌝ }
     ensures { λ r. ⌜ Passed (now (old .entry)) from r (listedGroup change 0 (entriesFrom (now (old .entry)) (from .at) (from
         .left))) (restAfter (change .key) (entriesFrom (now (old .entry)) (from .at) (from .left))) ⌝ }
     ensures { λ _. ⌜ now (new .exit) ≡ putEntries (now (new .entry)) (from .count) (listedGroup change 0
@@ -213,7 +227,7 @@ fn pass_line(
     marks: &[u8; 1000],
     new: &mut [u64],
 ) -> Place
-    requires { ⌜ stands from ⌝ }
+    requires { ⌜ stands (now old) from ⌝ }
     ensures { λ r. ⌜ Passed (now (old .entry)) from r (lineEntries change (closesBy plan (now (marks .entry))) (plan .closing)
         (entriesFrom (now (old .entry)) (from .at) (from .left))) (lineRest change (entriesFrom (now (old .entry)) (from .at)
         (from .left))) ⌝ }

@@ -11,19 +11,19 @@ use Rattle.merge.proofs.goes_on.Tie as tie
 returns : tie.Need-returns
 returns c = sym (goes-none _ _ (rows-none _ _ _ (c .if1 .taken)))
 
-entry-at-requires : tie.Need-entry-at-requires
-entry-at-requires c κs = search needs
+old-entry-requires : tie.Need-old-entry-requires
+old-entry-requires c κs = search needs
 
 returns-2 : tie.Need-returns-2
 returns-2 c =
     let p = c .before .before .before in
-    sym (goes-apart _ _ _ _ (next-row _ _ _ (positive (p .before .if1 .left)) (p .entry-at .ensures)) (c .if2 .taken))
+    sym (goes-apart _ _ _ _ (next-row _ _ _ (positive (p .before .if1 .left)) (p .old-entry .ensures)) (c .if2 .taken))
 
 returns-3 : tie.Need-returns-3
 returns-3 c =
     let p = c .before .before .before .before in
-    let q = next-row _ _ _ (positive (p .before .if1 .left)) (p .entry-at .ensures) in
-    sym (goes-along _ _ (p .entry-at .result) _ q (c .before .if2 .left))
+    let q = next-row _ _ _ (positive (p .before .if1 .left)) (p .old-entry .ensures) in
+    sym (goes-along _ _ (p .old-entry .result) _ q (c .before .if2 .left))
 
 pub goes-on-spec : {M : Type 1} → statement M
-goes-on-spec = tie.close (tie.spec returns entry-at-requires returns-2 returns-3)
+goes-on-spec = tie.close (tie.spec returns old-entry-requires returns-2 returns-3)

@@ -2,9 +2,10 @@
 -- Assumes nothing.
 use mathlib.Core.Path.{_≡_, refl, sym, _∙_}
 use mathlib.Core.List.{[], _∷_}
-use Prim.Native.Nat.{_+_, _-_, _*_, _≤_}
+use Prim.Native.Nat.{_+_, _-_, _*_, _≤_, min}
 use native.Mathlib.Omega.{arith}
 use borrow.Author.Needs.{needs}
+use lib.ListN.{length}
 use Rattle.book_words.specs.Layout.{entryWords, mostWords, entriesFrom}
 use Rattle.book_words.proofs.Rows.{rows-none}
 use Rattle.merge_rule.specs.Passes.{keptOf, statusOf, restAfter}
@@ -16,7 +17,7 @@ use Rattle.merge.proofs.keep_listed.Tie as tie
 
 abbrev Inv-loop : tie.InvT-loop
 Inv-loop old change new₀ at₀ left₀ count₀ status₀ new at left count status =
-    (at + left * entryWords ≤ mostWords) × (left ≤ left₀) × (count + left ≤ count₀ + left₀)
+    (left * entryWords ≤ min mostWords (length old) - at) × (left ≤ left₀) × (count + left ≤ count₀ + left₀)
     × Writing new₀ count₀ (keptOf change (entriesFrom old at₀ left₀)) new count (keptOf change (entriesFrom old at left))
     × (statusOf change status (entriesFrom old at left) ≡ statusOf change 0 (entriesFrom old at₀ left₀))
     × (restAfter (change .key) (entriesFrom old at left) ≡ restAfter (change .key) (entriesFrom old at₀ left₀))
@@ -31,17 +32,17 @@ at-kept : (c : tie.Then2 Inv-loop μ-loop) →
     let p = c .before .before .before .before .before .before in
     let a = p .before .before .before .before .before .args in
     let l = p .before .before .loop in
-    let e = p .entry-at .result in
+    let e = p .old-entry .result in
     KeptTurn (a .change) (l .status) (e .offer) (entriesFrom (a .old .now) (l .at) (l .left)) (e ∷ [])
     (entriesFrom (a .old .now) (l .at + entryWords) (l .left - 1))
 at-kept c =
     let p = c .before .before .before .before .before .before in
     let a = p .before .before .before .before .before .args in
-    kept-on (a .change) _ _ _ (next-row _ _ _ (p .before .loop-test .taken) (p .entry-at .ensures))
+    kept-on (a .change) _ _ _ (next-row _ _ _ (p .before .loop-test .taken) (p .old-entry .ensures))
     (c .before .before .before .if1 .left) (c .if2 .taken)
 
-entry-at-requires : tie.Need-entry-at-requires Inv-loop μ-loop
-entry-at-requires c κs = search needs
+old-entry-requires : tie.Need-old-entry-requires Inv-loop μ-loop
+old-entry-requires c κs = search needs
 
 same-length : tie.Need-same-length Inv-loop μ-loop
 same-length c = search needs
@@ -51,7 +52,7 @@ returns c =
     let p = c .before .before .before in
     let a = p .before .before .before .before .before .args in
     let l = p .before .before .loop in
-    let q = next-row (a .old .now) (l .at) (l .left) (p .before .loop-test .taken) (p .entry-at .ensures) in
+    let q = next-row (a .old .now) (l .at) (l .left) (p .before .loop-test .taken) (p .old-entry .ensures) in
     let k = kept-stops (a .change) (l .status) _ _ q (c .if1 .taken) in (
       record {
         counted = writing-counted (l .inv .3) (k .kept);
@@ -98,7 +99,7 @@ loop-again-2 c =
     let p = c .before .before .before .before .before .before in
     let a = p .before .before .before .before .before .args in
     let l = p .before .before .loop in
-    let q = next-row (a .old .now) (l .at) (l .left) (p .before .loop-test .taken) (p .entry-at .ensures) in
+    let q = next-row (a .old .now) (l .at) (l .left) (p .before .loop-test .taken) (p .old-entry .ensures) in
     let k = kept-off (a .change) (l .status) _ _ q (c .before .before .before .if1 .left) (c .if2 .left) in (
       omega arith,
       omega arith,
@@ -136,7 +137,7 @@ keep-listed-spec =
     Inv-loop
     μ-loop
     loop-holds
-    entry-at-requires
+    old-entry-requires
     same-length
     returns
     cast-at

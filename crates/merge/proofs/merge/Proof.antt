@@ -1,9 +1,10 @@
 -- `merge::merge` meets its contract. The invariant: merging what is left of the old entries with the lines that are left comes to the
 -- merge of all (`Merging`), and the numbers of the place stay small. The measure is the number of lines left. Assumes nothing.
 use mathlib.Core.Path.{ap}
-use Prim.Native.Nat.{_+_, _*_, _≤_}
+use Prim.Native.Nat.{_+_, _-_, _*_, _≤_, min}
 use native.Mathlib.Omega.{arith}
 use borrow.Author.Needs.{needs}
+use lib.ListN.{length}
 use Rattle.book_words.specs.Layout.{entryWords, mostWords}
 use Rattle.book_words.specs.declared.Header.{Header}
 use Rattle.book.proofs.Headers.{count-room}
@@ -16,7 +17,7 @@ use Rattle.merge.proofs.merge.Tie as tie
 
 abbrev Inv-loop : tie.InvT-loop
 Inv-loop old notice start lines plan marks new₀ place₀ latest₀ at₀ left₀ new place latest at left =
-    (place .at + place .left * entryWords ≤ mostWords)
+    (place .left * entryWords ≤ min mostWords (length old) - place .at)
     × (place .count + 2 * place .left + left ≤ mostMerged)
     × Merging old notice plan marks new₀ (linesAt left₀ notice at₀) new place latest at left
 
@@ -37,7 +38,7 @@ loop-holds c =
     let a = c .before .before .before .before .before .before .args in
     let room = count-room (a .old .now) in
     let n = c .before .before .headed-count .ensures in (
-      omega (arith, room .1, n),
+      omega (arith, room .0, room .1, n),
       omega (arith, room .1, n, c .lesser .ensures),
       merge-starts _ _ _ _ _ _ _ n (ap (λ (h : Header). h .latest) (c .before .header-of .ensures)),
     )

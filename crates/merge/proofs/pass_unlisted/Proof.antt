@@ -3,10 +3,11 @@
 use mathlib.Core.Path.{_≡_, refl, sym, _∙_}
 use mathlib.Core.Logic.{⊎-elim}
 use mathlib.Core.List.{_++_}
-use Prim.Native.Nat.{_+_, _-_, _*_, _≤_}
+use Prim.Native.Nat.{_+_, _-_, _*_, _≤_, min}
 use native.Mathlib.Omega.{arith}
 use borrow.Author.Needs.{needs}
 use borrow.Author.Tests.{not-false}
+use lib.ListN.{length}
 use Rattle.book_words.specs.Layout.{entryWords, mostWords, entriesFrom}
 use Rattle.book_words.proofs.Rows.{rows-none}
 use Rattle.merge_rule.specs.Passes.{gapBelow, restFrom, unlistedAs}
@@ -19,7 +20,7 @@ use Rattle.merge.proofs.pass_unlisted.Tie as tie
 
 abbrev Inv-loop : tie.InvT-loop
 Inv-loop old below plan marks new₀ at₀ left₀ count₀ day alike₀ new at left count alike =
-    (at + left * entryWords ≤ mostWords) × (left ≤ left₀) × (count + 2 * left ≤ count₀ + 2 * left₀)
+    (left * entryWords ≤ min mostWords (length old) - at) × (left ≤ left₀) × (count + 2 * left ≤ count₀ + 2 * left₀)
     × Writing new₀ count₀ (gapBelow below (closesBy plan marks) (plan .closing) (entriesFrom old at₀ left₀)) new count
     (gapBelow below (closesBy plan marks) (plan .closing) (entriesFrom old at left))
     × (restFrom below (entriesFrom old at left) ≡ restFrom below (entriesFrom old at₀ left₀))
@@ -34,8 +35,8 @@ loop-holds c = (omega arith, omega arith, omega arith, writing-all _ _ _, refl, 
 closed-anyway-requires : tie.Need-closed-anyway-requires Inv-loop μ-loop
 closed-anyway-requires c κs = search needs
 
-entry-at-requires : tie.Need-entry-at-requires Inv-loop μ-loop
-entry-at-requires c κs = search needs
+old-entry-requires : tie.Need-old-entry-requires Inv-loop μ-loop
+old-entry-requires c κs = search needs
 
 same-length : tie.Need-same-length Inv-loop μ-loop
 same-length c = search needs
@@ -45,7 +46,7 @@ returns c =
     let p = c .before .before in
     let a = p .before .before .before .before .before .before .args in
     let l = p .before .before .loop in
-    let q = next-row (a .old .now) (l .at) (l .left) (p .before .loop-test .taken) (p .entry-at .ensures) in
+    let q = next-row (a .old .now) (l .at) (l .left) (p .before .loop-test .taken) (p .old-entry .ensures) in
     let none = gap-stops (a .below) (closesBy (a .plan) (a .marks .now)) (a .plan .closing) _ _ q (c .if1 .taken) in (
       record {
         counted = writing-counted (l .inv .3) none;
@@ -73,7 +74,7 @@ is-known : (c : tie.Joined2 Inv-loop μ-loop) →
     let p = c .before .before .before .before .before in
     let a = p .before .before .before .before .before .before .args in
     ClosedAlike (a .plan) (a .marks .now) (c .if2 .alike)
-    × (c .if2 .alike .closed ≡ closesBy (a .plan) (a .marks .now) (p .entry-at .result .key))
+    × (c .if2 .alike .closed ≡ closesBy (a .plan) (a .marks .now) (p .old-entry .result .key))
 is-known c =
     let p = c .before .before .before .before .before in
     let a = p .before .before .before .before .before .before .args in
@@ -90,11 +91,11 @@ at-entry : (c : tie.Joined2 Inv-loop μ-loop) →
     let day = a .plan .closing in
     let es = entriesFrom (a .old .now) (l .at + entryWords) (l .left - 1) in
     gapBelow (a .below) closes day (entriesFrom (a .old .now) (l .at) (l .left))
-    ≡ unlistedAs (c .if2 .alike .closed) day (p .entry-at .result) es ++ gapBelow (a .below) closes day es
+    ≡ unlistedAs (c .if2 .alike .closed) day (p .old-entry .result) es ++ gapBelow (a .below) closes day es
 at-entry c =
     let p = c .before .before .before .before .before in
     let a = p .before .before .before .before .before .before .args in
-    let q = next-row _ _ _ (p .before .loop-test .taken) (p .entry-at .ensures) in
+    let q = next-row _ _ _ (p .before .loop-test .taken) (p .old-entry .ensures) in
     gap-on (a .below) (closesBy (a .plan) (a .marks .now)) (a .plan .closing) _ _ q (c .before .before .before .if1 .left)
     (is-known c .1)
 
@@ -110,12 +111,12 @@ loop-again c =
     let p = j .before .before .before .before .before in
     let a = p .before .before .before .before .before .before .args in
     let l = p .before .before .loop in
-    let q = next-row (a .old .now) (l .at) (l .left) (p .before .loop-test .taken) (p .entry-at .ensures) in
+    let q = next-row (a .old .now) (l .at) (l .left) (p .before .loop-test .taken) (p .old-entry .ensures) in
     let es = entriesFrom (a .old .now) (l .at + entryWords) (l .left - 1) in
     let put = c .before .before .put-unlisted .ensures in (
       omega arith,
       omega arith,
-      omega (arith, put .0, at-most-two (a .plan .closing) (p .entry-at .result) es (j .if2 .alike .closed)),
+      omega (arith, put .0, at-most-two (a .plan .closing) (p .old-entry .result) es (j .if2 .alike .closed)),
       writing-on (l .inv .3) _ _ _ (at-entry j) (put .0) (put .1),
       sym (rest-on (a .below) _ _ q (j .before .before .before .if1 .left)) ∙ l .inv .4,
       is-known j .0,
@@ -150,7 +151,7 @@ pass-unlisted-spec =
     μ-loop
     closed-anyway-requires
     loop-holds
-    entry-at-requires
+    old-entry-requires
     same-length
     returns
     is-within-requires
