@@ -1,7 +1,7 @@
 -- The merge as a whole, for any words and bytes: what it answers, and the words that it leaves.
 use mathlib.Core.List.{List}
 use mathlib.Core.Path.{_≡_}
-use Prim.Native.Nat.{ℕ, _+_, _-_, _*_, _≤_, min}
+use Prim.Native.Nat.{ℕ, _+_, _-_, _*_, _/_, _≤_, min}
 use lib.ListN.{length}
 use Rattle.dial_code.specs.Key.{keysEnd}
 use Rattle.notice.specs.NoticeRule.{mostLines}
@@ -48,6 +48,10 @@ mergedLeaves ws p marks s start lines new = putEntries new 0 (mergedBy ws p mark
 abbrev pub stands : List ℕ → Place → Type 0
 stands ws from =
     (from .left * entryWords ≤ min mostWords (length ws) - from .at) × (from .count + 2 * from .left ≤ mostMerged)
+
+-- How many entries have room in so many words.
+abbrev pub roomIn : ℕ → ℕ
+roomIn len = (len - headerWords) / entryWords
 
 -- What a pass over old entries comes to: from one place to another it has put some entries, and leaves the rest.
 pub record Passed (ws : List ℕ) (from to : Place) (put rest : List Entry) : Type 0 where

@@ -7,7 +7,7 @@ ghost use lib.ListN.{length};
 ghost use Rattle.book_words.specs.Layout.{entryWords, entryAt, entriesFrom, putEntries};
 ghost use Rattle.effect.specs.Closings.{closesBy};
 ghost use Rattle.merge_rule.specs.Passes.{goesOn, unlistedAs, gapBelow, restFrom, listedGroup, keptOf, restAfter, lineEntries, lineRest};
-ghost use Rattle.merge.specs.Merge.{mostMerged, stands, Passed, PassedListed, mergedAnswer, mergedLeaves};
+ghost use Rattle.merge.specs.Merge.{mostMerged, stands, roomIn, Passed, PassedListed, mergedAnswer, mergedLeaves};
 use book_words::Entry;
 use effect::Plan;
 use notice_line::LineRead;
@@ -39,16 +39,27 @@ fn lesser(a: u64, b: u64) -> u64
     if a < b { a } else { b }
 }
 
+// How many entries have room in so many words.
+fn room_in(len: usize) -> usize
+    ensures { λ r. ⌜ r ≡ roomIn len ⌝ }
+{
+    if len < book_words::HEADER_WORDS {
+        return 0;
+    }
+    (len - book_words::HEADER_WORDS) / book_words::ENTRY_WORDS
+}
+
 // Puts an entry into the new book after so many, where there is room for it.
-fn put(new: &mut [u64], count: usize, e: Entry)
-    requires { ⌜ count ≤ mostMerged ⌝ }
+fn put(new: &mut [u64], room: usize, count: usize, e: Entry)
+    requires { ⌜ room ≡ roomIn (length (now new)) ⌝ }
     ensures { λ _. ⌜ now (new .exit) ≡ putEntries (now (new .entry)) count (e ∷ []) ⌝ }
 {
-    book_words::write_entry(
-        new,
-        (book_words::HEADER_WORDS + count * book_words::ENTRY_WORDS) as u32,
-        e,
-    );
+    if count < room {
+        let at = book_words::HEADER_WORDS + count * book_words::ENTRY_WORDS;
+        new[at] = e.key;
+        new[at + book_words::DAY_WORD] = e.day;
+        new[at + book_words::OFFER_WORD] = e.offer;
+    }
 }
 
 // The entry at a place of the old book, all of whose words are there.
@@ -89,21 +100,22 @@ fn put_unlisted(
     closed: bool,
     day: u64,
     new: &mut [u64],
+    room: usize,
     count: usize,
 ) -> usize
-    requires { ⌜ (count + 2 ≤ mostMerged) × (left * entryWords ≤ length (now old) - at) ⌝ }
+    requires { ⌜ (room ≡ roomIn (length (now new))) × (count + 2 ≤ mostMerged) × (left * entryWords ≤ length (now old) - at) ⌝ }
     ensures { λ r. ⌜ r ≡ count + length (unlistedAs closed day e (entriesFrom (now (old .entry)) at left)) ⌝ }
     ensures { λ _. ⌜ now (new .exit) ≡ putEntries (now (new .entry)) count (unlistedAs closed day e
         (entriesFrom (now (old .entry)) at left)) ⌝ }
 {
     if !closed {
-        put(new, count, e);
+        put(new, room, count, e);
         return count + 1;
     }
     if day <= e.day {
         return count;
     }
-    put(new, count, e);
+    put(new, room, count, e);
     if e.offer == 0 {
         return count + 1;
     }
@@ -115,7 +127,7 @@ fn put_unlisted(
         day,
         offer: 0,
     };
-    put(new, count + 1, end);
+    put(new, room, count + 1, end);
     count + 2
 }
 
@@ -128,8 +140,9 @@ fn pass_unlisted(
     plan: Plan,
     marks: &[u8; 1000],
     new: &mut [u64],
+    room: usize,
 ) -> Place
-    requires { ⌜ stands (now old) from ⌝ }
+    requires { ⌜ (room ≡ roomIn (length (now new))) × stands (now old) from ⌝ }
     ensures { λ r. ⌜ Passed (now (old .entry)) from r (gapBelow below (closesBy plan (now (marks .entry))) (plan .closing)
         (entriesFrom (now (old .entry)) (from .at) (from .left))) (restFrom below (entriesFrom (now (old .entry)) (from .at)
         (from .left))) ⌝ }
@@ -152,14 +165,14 @@ fn pass_unlisted(
         }
         at += book_words::ENTRY_WORDS as u32;
         left -= 1;
-        count = put_unlisted(old, at, left, e, alike.closed, day, new, count);
+        count = put_unlisted(old, at, left, e, alike.closed, day, new, room, count);
     }
     Place { at, left, count }
 }
 
 // Keeps the entries of a listed code that stand before its line's effective day.
-fn keep_listed(old: &[u64], from: Place, change: Entry, new: &mut [u64]) -> Kept
-    requires { ⌜ stands (now old) from ⌝ }
+fn keep_listed(old: &[u64], from: Place, change: Entry, new: &mut [u64], room: usize) -> Kept
+    requires { ⌜ (room ≡ roomIn (length (now new))) × stands (now old) from ⌝ }
     ensures { λ r. ⌜ PassedListed (now (old .entry)) from r change (entriesFrom (now (old .entry)) (from .at) (from .left)) ⌝ }
     ensures { λ _. ⌜ now (new .exit) ≡ putEntries (now (new .entry)) (from .count) (keptOf change
         (entriesFrom (now (old .entry)) (from .at) (from .left))) ⌝ }
@@ -181,7 +194,7 @@ fn keep_listed(old: &[u64], from: Place, change: Entry, new: &mut [u64]) -> Kept
         at += book_words::ENTRY_WORDS as u32;
         left -= 1;
         if e.day < change.day {
-            put(new, count, e);
+            put(new, room, count, e);
             count += 1;
             status = e.offer;
         }
@@ -195,14 +208,14 @@ fn keep_listed(old: &[u64], from: Place, change: Entry, new: &mut [u64]) -> Kept
 }
 
 // Passes the entries of a listed code, and puts its line's change after those that stay.
-fn pass_listed(old: &[u64], from: Place, change: Entry, new: &mut [u64]) -> Place
-    requires { ⌜ stands (now old) from ⌝ }
+fn pass_listed(old: &[u64], from: Place, change: Entry, new: &mut [u64], room: usize) -> Place
+    requires { ⌜ (room ≡ roomIn (length (now new))) × stands (now old) from ⌝ }
     ensures { λ r. ⌜ Passed (now (old .entry)) from r (listedGroup change 0 (entriesFrom (now (old .entry)) (from .at) (from
         .left))) (restAfter (change .key) (entriesFrom (now (old .entry)) (from .at) (from .left))) ⌝ }
     ensures { λ _. ⌜ now (new .exit) ≡ putEntries (now (new .entry)) (from .count) (listedGroup change 0
         (entriesFrom (now (old .entry)) (from .at) (from .left))) ⌝ }
 {
-    let k = keep_listed(old, from, change, new);
+    let k = keep_listed(old, from, change, new, room);
     if k.status == change.offer {
         return Place {
             at: k.at,
@@ -210,7 +223,7 @@ fn pass_listed(old: &[u64], from: Place, change: Entry, new: &mut [u64]) -> Plac
             count: k.count,
         };
     }
-    put(new, k.count, change);
+    put(new, room, k.count, change);
     Place {
         at: k.at,
         left: k.left,
@@ -226,8 +239,9 @@ fn pass_line(
     plan: Plan,
     marks: &[u8; 1000],
     new: &mut [u64],
+    room: usize,
 ) -> Place
-    requires { ⌜ stands (now old) from ⌝ }
+    requires { ⌜ (room ≡ roomIn (length (now new))) × stands (now old) from ⌝ }
     ensures { λ r. ⌜ Passed (now (old .entry)) from r (lineEntries change (closesBy plan (now (marks .entry))) (plan .closing)
         (entriesFrom (now (old .entry)) (from .at) (from .left))) (lineRest change (entriesFrom (now (old .entry)) (from .at)
         (from .left))) ⌝ }
@@ -235,8 +249,8 @@ fn pass_line(
         (closesBy plan (now (marks .entry))) (plan .closing) (entriesFrom (now (old .entry)) (from .at) (from .left))) ⌝ }
 {
     let key = change.key;
-    let to = pass_unlisted(old, from, key, plan, marks, new);
-    pass_listed(old, to, change, new)
+    let to = pass_unlisted(old, from, key, plan, marks, new, room);
+    pass_listed(old, to, change, new, room)
 }
 
 // Merges the entries that a book's header counts with the lines of a notice from a place on, at most so many and up to the first
@@ -254,6 +268,7 @@ pub fn merge(
     ensures { λ _. ⌜ now (new .exit) ≡ mergedLeaves (now (old .entry)) plan (now (marks .entry)) (now (notice .entry)) start lines
         (now (new .entry)) ⌝ }
 {
+    let room = room_in(new.len());
     let mut place = Place {
         at: book_words::HEADER_WORDS as u32,
         left: book::headed_count(old),
@@ -271,13 +286,13 @@ pub fn merge(
             LineRead::Read(line, end) => {
                 let change = effect::change_of(old, plan, line);
                 latest = effect::later(latest, change.day);
-                place = pass_line(old, place, change, plan, marks, new);
+                place = pass_line(old, place, change, plan, marks, new, room);
                 at = end;
                 left -= 1;
             }
         }
     }
-    let to = pass_unlisted(old, place, dial_code::KEYS_END, plan, marks, new);
+    let to = pass_unlisted(old, place, dial_code::KEYS_END, plan, marks, new, room);
     Merged {
         count: to.count,
         latest,

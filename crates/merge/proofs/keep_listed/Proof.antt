@@ -16,14 +16,14 @@ use Rattle.merge.proofs.keep_listed.Statement.{statement}
 use Rattle.merge.proofs.keep_listed.Tie as tie
 
 abbrev Inv-loop : tie.InvT-loop
-Inv-loop old change new₀ at₀ left₀ count₀ status₀ new at left count status =
+Inv-loop old change new₀ room at₀ left₀ count₀ status₀ new at left count status =
     (left * entryWords ≤ min mostWords (length old) - at) × (left ≤ left₀) × (count + left ≤ count₀ + left₀)
     × Writing new₀ count₀ (keptOf change (entriesFrom old at₀ left₀)) new count (keptOf change (entriesFrom old at left))
     × (statusOf change status (entriesFrom old at left) ≡ statusOf change 0 (entriesFrom old at₀ left₀))
     × (restAfter (change .key) (entriesFrom old at left) ≡ restAfter (change .key) (entriesFrom old at₀ left₀))
 
 abbrev μ-loop : tie.MeasureT-loop
-μ-loop old change new₀ at₀ left₀ count₀ status₀ new at left count status = left
+μ-loop old change new₀ room at₀ left₀ count₀ status₀ new at left count status = left
 
 loop-holds : tie.Need-loop-holds Inv-loop μ-loop
 loop-holds c = (omega arith, omega arith, omega arith, writing-all _ _ _, refl, refl)
@@ -71,7 +71,9 @@ sub-left : tie.Need-sub-left Inv-loop μ-loop
 sub-left c = search needs
 
 put-requires : tie.Need-put-requires Inv-loop μ-loop
-put-requires c κs = search needs
+put-requires c κs =
+    let l = c .before .before .before .before .before .before .before .before .before in
+    omega (arith, l .loop .inv .3 .same, l .before .before .before .pre .0)
 
 add-count : tie.Need-add-count Inv-loop μ-loop
 add-count c = search needs

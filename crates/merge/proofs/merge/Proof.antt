@@ -16,13 +16,13 @@ use Rattle.merge.proofs.merge.Statement.{statement}
 use Rattle.merge.proofs.merge.Tie as tie
 
 abbrev Inv-loop : tie.InvT-loop
-Inv-loop old notice start lines plan marks new₀ place₀ latest₀ at₀ left₀ new place latest at left =
+Inv-loop old notice start lines plan marks new₀ room place₀ latest₀ at₀ left₀ new place latest at left =
     (place .left * entryWords ≤ min mostWords (length old) - place .at)
     × (place .count + 2 * place .left + left ≤ mostMerged)
     × Merging old notice plan marks new₀ (linesAt left₀ notice at₀) new place latest at left
 
 abbrev μ-loop : tie.MeasureT-loop
-μ-loop old notice start lines plan marks new₀ place₀ latest₀ at₀ left₀ new place latest at left = left
+μ-loop old notice start lines plan marks new₀ room place₀ latest₀ at₀ left₀ new place latest at left = left
 
 headed-count-requires : tie.Need-headed-count-requires Inv-loop μ-loop
 headed-count-requires c κs = search needs
@@ -35,7 +35,7 @@ lesser-requires c κs = search needs
 
 loop-holds : tie.Need-loop-holds Inv-loop μ-loop
 loop-holds c =
-    let a = c .before .before .before .before .before .before .args in
+    let a = c .before .before .before .before .before .before .before .args in
     let room = count-room (a .old .now) in
     let n = c .before .before .headed-count .ensures in (
       omega (arith, room .0, room .1, n),
@@ -71,7 +71,7 @@ pass-line-requires : tie.Need-pass-line-requires Inv-loop μ-loop
 pass-line-requires c κs =
     let d = c .before .before .before .before .before .before in
     let i = d .before .before .loop .inv in
-    (i .0, omega (arith, i .1))
+    (omega (arith, i .2 .puts .same, d .before .before .before .before .before .before .room-in .ensures), (i .0, omega (arith, i .1)))
 
 sub-left : tie.Need-sub-left Inv-loop μ-loop
 sub-left c = search needs
@@ -95,7 +95,7 @@ loop-again-2 c =
 pass-unlisted-requires : tie.Need-pass-unlisted-requires Inv-loop μ-loop
 pass-unlisted-requires c κs =
     let i = c .before .before .loop .inv in
-    (i .0, omega (arith, i .1))
+    (omega (arith, i .2 .puts .same, c .before .before .before .before .before .before .room-in .ensures), (i .0, omega (arith, i .1)))
 
 same-length : tie.Need-same-length Inv-loop μ-loop
 same-length c =
@@ -108,15 +108,18 @@ returns c =
     let h = c .before .before .before .before .loop-test .left in
     let p = c .before .before .pass-unlisted .ensures in
     let e = c .before .before .before .before .before .before .lesser .ensures in
-    let a = c .before .before .before .before .before .before .before .before .before .before .before .before .args in (
+    let a = c .before .before .before .before .before .before .before .before .before .before .before .before .before .args in (
       merge-answers (a .old .now) (a .plan) (a .marks .now) (a .notice .now) (a .start) (a .lines) e
           (merge-counted i h (p .0) (p .1)) (merge-dated i h),
       merge-leaves (a .old .now) (a .plan) (a .marks .now) (a .notice .now) (a .start) (a .lines) e
           (a .new .now) (merge-written i h (p .0) (p .1)),
     )
 
-cast-t17 : tie.Need-cast-t17 Inv-loop μ-loop
-cast-t17 c = search needs
+room-in-requires : tie.Need-room-in-requires Inv-loop μ-loop
+room-in-requires c κs = search needs
+
+cast-t19 : tie.Need-cast-t19 Inv-loop μ-loop
+cast-t19 c = search needs
 
 pub merge-spec : {M : Type 1} → statement M
 merge-spec =
@@ -124,7 +127,8 @@ merge-spec =
     (tie.spec
     Inv-loop
     μ-loop
-    cast-t17
+    room-in-requires
+    cast-t19
     headed-count-requires
     header-of-requires
     lesser-requires

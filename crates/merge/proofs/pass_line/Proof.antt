@@ -19,7 +19,7 @@ pass-listed-requires c κs =
     let a = p .before .before .before .before .args in
     let u = p .pass-unlisted .ensures .0 in
     let few = gap-bound (a .old .now) (a .from) _ (a .change .key) (closesBy (a .plan) (a .marks .now)) (a .plan .closing) u in
-    (u .stands, omega (arith, few, p .before .before .before .before .pre .1))
+    (omega (arith, p .pass-unlisted .kept .1 .1 .1 .1 .1 .0, p .before .before .before .before .pre .0), (u .stands, omega (arith, few, p .before .before .before .before .pre .1 .1)))
 
 same-length : tie.Need-same-length
 same-length c = search needs

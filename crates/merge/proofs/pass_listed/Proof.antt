@@ -39,15 +39,7 @@ at-new c = listed-new _ _ (c .before .before .before .before .before .keep-liste
 put-requires : tie.Need-put-requires
 put-requires c κs =
     let p = c .before .before .before .before .before .before in
-    let a = p .before .before .before .before .args in
-    let es = entriesFrom (a .old .now) (a .from .at) (a .from .left) in
-    omega (
-      arith,
-      p .keep-listed .ensures .0 .counted,
-      kept-most (a .change) es,
-      length-rows (a .old .now) (a .from .at) (a .from .left),
-      p .before .before .before .before .pre .1,
-    )
+    omega (arith, p .keep-listed .kept .1 .1 .1 .0, p .before .before .before .before .pre .0)
 
 same-length-2 : tie.Need-same-length-2
 same-length-2 c = search needs
@@ -71,8 +63,8 @@ returns-2 c =
       puts-on (a .new .now) (a .from .count) n kept line (k .0 .counted) (k .1) put,
     )
 
-add-t12 : tie.Need-add-t12
-add-t12 c =
+add-t13 : tie.Need-add-t13
+add-t13 c =
     let p = c .before .before .before .before .before .before .before .before .before .before in
     let a = p .before .before .before .before .args in
     let es = entriesFrom (a .old .now) (a .from .at) (a .from .left) in
@@ -91,6 +83,6 @@ pass-listed-spec =
     same-length
     returns
     put-requires
-    add-t12
+    add-t13
     same-length-2
     returns-2)

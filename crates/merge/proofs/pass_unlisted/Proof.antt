@@ -19,7 +19,7 @@ use Rattle.merge.proofs.pass_unlisted.Statement.{statement}
 use Rattle.merge.proofs.pass_unlisted.Tie as tie
 
 abbrev Inv-loop : tie.InvT-loop
-Inv-loop old below plan marks new₀ at₀ left₀ count₀ day alike₀ new at left count alike =
+Inv-loop old below plan marks new₀ room at₀ left₀ count₀ day alike₀ new at left count alike =
     (left * entryWords ≤ min mostWords (length old) - at) × (left ≤ left₀) × (count + 2 * left ≤ count₀ + 2 * left₀)
     × Writing new₀ count₀ (gapBelow below (closesBy plan marks) (plan .closing) (entriesFrom old at₀ left₀)) new count
     (gapBelow below (closesBy plan marks) (plan .closing) (entriesFrom old at left))
@@ -27,7 +27,7 @@ Inv-loop old below plan marks new₀ at₀ left₀ count₀ day alike₀ new at 
     × ClosedAlike plan marks alike
 
 abbrev μ-loop : tie.MeasureT-loop
-μ-loop old below plan marks new₀ at₀ left₀ count₀ day alike₀ new at left count alike = left
+μ-loop old below plan marks new₀ room at₀ left₀ count₀ day alike₀ new at left count alike = left
 
 loop-holds : tie.Need-loop-holds Inv-loop μ-loop
 loop-holds c = (omega arith, omega arith, omega arith, writing-all _ _ _, refl, rw (c .closed-anyway .ensures) (anyway-alike _ _))
@@ -100,7 +100,9 @@ at-entry c =
     (is-known c .1)
 
 put-unlisted-requires : tie.Need-put-unlisted-requires Inv-loop μ-loop
-put-unlisted-requires c κs = omega (arith, c .before .before .before .before .before .before .before .before .loop .inv .2)
+put-unlisted-requires c κs =
+    let l = c .before .before .before .before .before .before .before .before in
+    omega (arith, l .loop .inv .2, l .loop .inv .3 .same, l .before .before .before .before .pre)
 
 loop-less : tie.Need-loop-less Inv-loop μ-loop
 loop-less c = search needs

@@ -86,7 +86,7 @@ both-put c =
     (sym (c .before .goes-on .ensures) ∙ c .if4 .left)
 
 put-requires-3 : tie.Need-put-requires-3
-put-requires-3 c κs = search needs
+put-requires-3 c κs = omega (arith, c .before .before .before .before .before .before .before .put2 .kept .0)
 
 add-result-4 : tie.Need-add-result-4
 add-result-4 c = search needs
