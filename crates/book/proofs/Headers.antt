@@ -39,7 +39,7 @@ headed ws l h =
       latest-most = leb-true (latestOf ws) lastDay (r .1);
     }
 
--- A sound book: four words, a sound header, sound entries, and 0 in every unused word.
+-- A sound book: words for a header, a sound header, sound entries, and 0 in every unused word.
 pub record SoundBook (ws : List ℕ) : Type 0 where
   pub four : headerWords ≤ length ws
   pub header : Headed ws

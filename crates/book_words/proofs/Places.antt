@@ -1,4 +1,4 @@
--- Words read and written at any place: past the end a word is 0 and nothing is written. Assumes nothing.
+-- Words read and written at any place: past the end a word is 0, and an entry is put whole or not at all. Assumes nothing.
 use mathlib.Core.Path.{_≡_, refl, ap, _∙_}
 use mathlib.Core.Bool.{Bool, true, false, cond}
 use mathlib.Core.List.{List, [], _∷_, _++_}

@@ -95,7 +95,7 @@ unfolding putEntry
 putEntries ws n [] = ws
 putEntries ws n (e ∷ es) = putEntries (putEntry ws (headerWords + n * entryWords) e) (n + 1) es
 
--- three words short of an entry, one entry exactly, two words over; the most entries
+-- no words, one word short of an entry, one entry exactly, two words over; the most entries, exactly and with words over
 holds : held 0 ∷ held 6 ∷ held 7 ∷ held 9 ∷ held 196609 ∷ held 1000000 ∷ [] ≡ 0 ∷ 0 ∷ 1 ∷ 1 ∷ 65535 ∷ 65535 ∷ []
 unfolding held
 holds = refl
@@ -108,7 +108,7 @@ one-book : bookOf 9 7 100 100 (entry 5 6 7 ∷ []) ≡ 1 ∷ 7 ∷ 100 ∷ 100 �
 unfolding bookOf
 one-book = refl
 
--- the second of two entries has one word too few, and none is written
+-- the second of two entries has one word too few, and none of its words is written
 one-put : putEntries (0 ∷ 0 ∷ 0 ∷ 0 ∷ 0 ∷ 0 ∷ 0 ∷ 0 ∷ 0 ∷ []) 0 (entry 5 6 7 ∷ entry 8 9 10 ∷ []) ≡ 0 ∷ 0 ∷ 0 ∷ 0 ∷ 5 ∷ 6 ∷ 7 ∷ 0 ∷ 0 ∷ []
 unfolding putEntries
 one-put = refl

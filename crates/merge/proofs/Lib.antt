@@ -1,4 +1,4 @@
--- The laws of the merge: words stored, the passes over entries one at a time, its lines, and how many entries it comes to.
+-- The laws of the merge: entries put, the passes over entries one at a time, its lines, and how many entries it comes to.
 pub mod Stores
 pub mod PassLaws
 pub mod LinesAgain

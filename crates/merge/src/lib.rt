@@ -254,7 +254,7 @@ fn pass_line(
 }
 
 // Merges the entries that a book's header counts with the lines of a notice from a place on, at most so many and up to the first
-// that does not read, and writes them after the new book's header as far as there is room: into no words, it only counts them.
+// that does not read. Writes those that there is room for after the new book's header: into no words, it only counts them.
 pub fn merge(
     old: &[u64],
     notice: &[u8],

@@ -45,7 +45,7 @@ receivedEarlier = 10
 
 -- The host maker.
 
--- a book under four words
+-- a book too short for a header
 abbrev pub bookTooShort : ℕ
 bookTooShort = 20
 

@@ -26,7 +26,7 @@ pub const RECEIVED_EARLIER: u64 = 10;
 
 // The host maker.
 
-// A book under four words.
+// A book too short for a header.
 pub const BOOK_TOO_SHORT: u64 = 20;
 // A book that is not sound.
 pub const BOOK_NOT_SOUND: u64 = 21;

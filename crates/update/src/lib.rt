@@ -151,8 +151,8 @@ fn marks_for(notice: &[u8], m: Summary) -> [u8; 1000]
     marks
 }
 
-// Whether a new book of so many words can hold the merged entries. They are at most two for each old entry and one for each line, and are only
-// counted where there might be no room for so many.
+// Whether a new book of so many words can hold the merged entries. They are at most two for each old entry and one for each line,
+// and are counted only where there might be no room for so many: merged into one word, where no entry has room.
 fn has_room(
     old: &[u64],
     notice: &[u8],
