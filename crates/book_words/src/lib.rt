@@ -4,7 +4,7 @@ ghost use mathlib.Core.List.{[], _∷_};
 ghost use Prim.Native.Nat.{_-_};
 ghost use lib.ListN.{length, getD, replicate};
 ghost use lib.Seq.{sets};
-ghost use Rattle.book_words.specs.Layout.{headerOf, wordsOfHeader, entryAt, putEntry, held};
+ghost use Rattle.book_words.specs.Layout.{headerOf, wordsOfHeader, entryAt, held};
 
 pub const HEADER_WORDS: usize = 4;
 
@@ -58,37 +58,12 @@ pub fn entry_at(words: &[u64], at: u32) -> Entry
     }
 }
 
-// The key of the entry that starts at a place, and its day: a search needs no more of most entries.
-pub fn key_at(words: &[u64], at: u32) -> u64
-    ensures { λ r. ⌜ r ≡ entryAt (now (words .entry)) at .key ⌝ }
-{
-    word_at(words, at as usize)
-}
-
-pub fn day_at(words: &[u64], at: u32) -> u64
-    ensures { λ r. ⌜ r ≡ entryAt (now (words .entry)) at .day ⌝ }
-{
-    word_at(words, at as usize + DAY_WORD)
-}
-
 // Sets the word at a place, where there is one.
 fn put_word(words: &mut [u64], at: usize, word: u64)
     ensures { λ _. ⌜ now (words .exit) ≡ sets (now (words .entry)) at (word ∷ []) ⌝ }
 {
     if at < words.len() {
         words[at] = word;
-    }
-}
-
-// Writes an entry at a place, where there are words for all of it.
-pub fn write_entry(words: &mut [u64], at: u32, e: Entry)
-    ensures { λ _. ⌜ now (words .exit) ≡ putEntry (now (words .entry)) at e ⌝ }
-{
-    let from = at as usize;
-    if from + ENTRY_WORDS <= words.len() {
-        words[from] = e.key;
-        words[from + DAY_WORD] = e.day;
-        words[from + OFFER_WORD] = e.offer;
     }
 }
 

@@ -11,7 +11,7 @@ use borrow.Author.Tests.{eq-eqb, ne-eqb, lt-leb, lt-ltb, le-ltb}
 use lib.Dec.{eqb, leb, ltb}
 use lib.ListN.{length}
 use Rattle.dial_code.proofs.Tests.{below, equal, above, order}
-use Rattle.book_words.specs.Layout.{headerWords, entryWords, mostEntries, countOf, noEntry, entryAt, entriesFrom, entriesOf}
+use Rattle.book_words.specs.Layout.{headerWords, entryWords, countOf, noEntry, entryAt, entriesFrom, entriesOf}
 use Rattle.lookup.specs.Search.{notAfter, halved, upTo, foundUpTo, lastEntry, ownWord}
 use Rattle.book.specs.Soundness.{sound}
 use Rattle.book.specs.Status.{statusFrom, statusIn}
@@ -125,27 +125,22 @@ found-turns ws count k d = rw halving (turns (upTo ws k d) count 0 count (omega 
 pub found-most : (ws : List ℕ) (count k d : ℕ) {n : ℕ} → n ≡ foundUpTo ws count k d → n ≤ count
 found-most ws count k d e = rw e (found-turns ws count k d .most)
 
--- The test of an entry by what was read of it: its key, and its day where the key is the code's.
-module _ (e : Entry) (k d : ℕ) {x : ℕ} (q : x ≡ e .key) where
-  pub by-smaller-key : x < k → true ≡ notAfter e k d
-  unfolding notAfter
-  by-smaller-key l = sym (rw (ne-eqb (e .key) k (λ z. omega arith), lt-ltb (e .key) k (omega arith)))
+-- The test of an entry that was read.
+pub tested :
+    (ws : List ℕ) (k d i : ℕ) {e : Entry} {t u : Bool}
+    → e ≡ entryAt ws (headerWords + i * entryWords)
+    → t ≡ notAfter e k d
+    → t ≡ u
+    → upTo ws k d i ≡ u
+tested ws k d i q r s = ap (λ (x : Entry). notAfter x k d) (sym q) ∙ sym r ∙ s
 
-  pub by-larger-key : k < x → false ≡ notAfter e k d
-  unfolding notAfter
-  by-larger-key l = sym (rw (ne-eqb (e .key) k (λ z. omega arith), le-ltb (e .key) k (omega arith)))
-
-  pub by-day : {y : ℕ} → k ≤ x → x ≤ k → y ≡ e .day → leb y d ≡ notAfter e k d
-  unfolding notAfter
-  by-day l m r = sym (rw (eq-eqb (e .key) k (omega arith), sym r))
-
--- What is found is no more than there is.
-pub found-few :
+-- Where the words of some entries are there, so are those of what is found.
+pub found-room :
     (ws : List ℕ) (count k d : ℕ) {n : ℕ}
-    → count ≤ mostEntries
+    → count * entryWords ≤ length ws - headerWords
     → n ≡ foundUpTo ws count k d
-    → n ≤ mostEntries
-found-few ws count k d h e = omega (arith, found-most ws count k d e)
+    → n * entryWords ≤ length ws - headerWords
+found-room ws count k d h e = omega (arith, found-most ws count k d e)
 
 -- The last of some entries, by the test of the code.
 module _ (ws : List ℕ) (n : ℕ) where

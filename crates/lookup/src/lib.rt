@@ -1,8 +1,9 @@
 // What a number costs on a day (document 01, "The book"): the longest match of a code or number, searched for by halving.
 ghost use mathlib.Core.Path.{_≡_};
-ghost use Prim.Native.Nat.{_-_, _≤_, min};
+ghost use Prim.Native.Nat.{_+_, _-_, _*_, _≤_, min};
+ghost use lib.ListN.{length};
 ghost use Rattle.rate.specs.OfferWord.{offerOf};
-ghost use Rattle.book_words.specs.Layout.{mostEntries, entryAt};
+ghost use Rattle.book_words.specs.Layout.{headerWords, entryWords, entryAt};
 ghost use Rattle.book.specs.Status.{heldOffer};
 ghost use Rattle.lookup.specs.Match.{isStanding};
 ghost use Rattle.lookup.specs.Search.{notAfter, foundUpTo, lastEntry, ownWord, bestFound};
@@ -24,31 +25,45 @@ pub enum Lookup {
     Refused(u64),
 }
 
-// Whether the entry at a place stands no later than a code and a day. The day is read only of an entry of the code.
-fn is_not_after(words: &[u64], at: u32, key: u64, day: u64) -> bool
-    ensures { λ r. ⌜ r ≡ notAfter (entryAt (now (words .entry)) at) key day ⌝ }
+// The entry at a place, all of whose words are there.
+fn entry_in(words: &[u64], at: usize) -> Entry
+    requires { ⌜ at + entryWords ≤ length (now words) ⌝ }
+    ensures { λ r. ⌜ r ≡ entryAt (now (words .entry)) at ⌝ }
 {
-    let k = book_words::key_at(words, at);
-    if k < key {
+    Entry {
+        key: words[at],
+        day: words[at + book_words::DAY_WORD],
+        offer: words[at + book_words::OFFER_WORD],
+    }
+}
+
+// Whether an entry stands no later than a code and a day.
+fn is_not_after(e: Entry, key: u64, day: u64) -> bool
+    ensures { λ r. ⌜ r ≡ notAfter e key day ⌝ }
+{
+    if e.key < key {
         return true;
     }
-    if key < k {
+    if key < e.key {
         return false;
     }
-    book_words::day_at(words, at) <= day
+    e.day <= day
 }
 
 // How many of the first entries stand no later than a code and a day, found by halving.
 fn entries_up_to(words: &[u64], count: usize, key: u64, day: u64) -> usize
-    requires { ⌜ count ≤ mostEntries ⌝ }
+    requires { ⌜ count * entryWords ≤ length (now words) - headerWords ⌝ }
     ensures { λ r. ⌜ r ≡ foundUpTo (now (words .entry)) count key day ⌝ }
 {
     let mut lo: usize = 0;
     let mut hi = count;
     while lo < hi {
         let mid = lo + (hi - lo) / 2;
-        let at = (book_words::HEADER_WORDS + mid * book_words::ENTRY_WORDS) as u32;
-        if is_not_after(words, at, key, day) {
+        let e = entry_in(
+            words,
+            book_words::HEADER_WORDS + mid * book_words::ENTRY_WORDS,
+        );
+        if is_not_after(e, key, day) {
             lo = mid + 1;
         } else {
             hi = mid;
@@ -59,7 +74,7 @@ fn entries_up_to(words: &[u64], count: usize, key: u64, day: u64) -> usize
 
 // The last of so many entries, and one of zeros where there is none.
 fn last_entry(words: &[u64], count: usize) -> Entry
-    requires { ⌜ count ≤ mostEntries ⌝ }
+    requires { ⌜ count * entryWords ≤ length (now words) - headerWords ⌝ }
     ensures { λ r. ⌜ r ≡ lastEntry (now (words .entry)) count ⌝ }
 {
     if count == 0 {
@@ -69,9 +84,9 @@ fn last_entry(words: &[u64], count: usize) -> Entry
             offer: 0,
         };
     }
-    book_words::entry_at(
+    entry_in(
         words,
-        (book_words::HEADER_WORDS + (count - 1) * book_words::ENTRY_WORDS) as u32,
+        book_words::HEADER_WORDS + (count - 1) * book_words::ENTRY_WORDS,
     )
 }
 

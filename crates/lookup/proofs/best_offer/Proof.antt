@@ -5,12 +5,13 @@ use mathlib.Core.Logic.{⊎-elim}
 use Prim.Native.Nat.{_-_, _*_, _/_, _^_, _≤_, min}
 use native.Mathlib.Omega.{arith}
 use borrow.Author.Needs.{needs}
+use lib.ListN.{length}
 use Rattle.dial_code.proofs.CountedKeys.{next-weight, weight-most}
-use Rattle.book_words.specs.Layout.{mostEntries}
+use Rattle.book_words.specs.Layout.{headerWords, entryWords}
 use Rattle.lookup.specs.Search.{tried, bestFound}
 use Rattle.lookup.specs.Match.{standing}
-use Rattle.lookup.proofs.Halving.{found-few}
 use Rattle.book.proofs.Headers.{count-room}
+use Rattle.lookup.proofs.Halving.{found-room}
 use Rattle.lookup.proofs.Matching.{stands, passes, place-key, next-quotient, prefix-most}
 use Rattle.lookup.proofs.Matching.{starts, no-place, no-entry, passed-by, searched}
 use Rattle.lookup.proofs.best_offer.Statement.{statement}
@@ -21,7 +22,7 @@ Inv-loop words key day count₀ bound₀ quotient₀ place₀ n₀ count bound q
     (n ≤ 15)
     × (place ≡ 11 ^ (15 - n))
     × (quotient ≡ key / place)
-    × (count ≤ mostEntries)
+    × (count * entryWords ≤ length words - headerWords)
     × (bestFound words key day ≡ tried words key day n count bound)
 
 abbrev μ-loop : tie.MeasureT-loop
@@ -57,7 +58,7 @@ headed-count-requires c κs = search needs
 loop-holds : tie.Need-loop-holds Inv-loop μ-loop
 loop-holds c =
     let e = c .headed-count .ensures in
-    (omega arith, refl, omega arith, rw e (count-room _ .1), starts _ _ _ e)
+    (omega arith, refl, omega arith, rw e (count-room _ .0), starts _ _ _ e)
 
 returns : tie.Need-returns Inv-loop μ-loop
 returns c = sym (c .before .before .loop .inv .4 ∙ no-entry _ _ _ _ _ _ (c .if1 .taken))
@@ -72,7 +73,7 @@ entries-up-to-requires : tie.Need-entries-up-to-requires Inv-loop μ-loop
 entries-up-to-requires c κs = c .before .before .before .loop .inv .3
 
 last-entry-requires : tie.Need-last-entry-requires Inv-loop μ-loop
-last-entry-requires c κs = found-few _ _ _ _ (c .before .before .before .before .loop .inv .3) (c .entries-up-to .ensures)
+last-entry-requires c κs = found-room _ _ _ _ (c .before .before .before .before .loop .inv .3) (c .entries-up-to .ensures)
 
 own-word-requires : tie.Need-own-word-requires Inv-loop μ-loop
 own-word-requires c κs = search needs
@@ -107,7 +108,7 @@ loop-again c =
       omega arith,
       next-weight _ _ h (l .inv .0) (l .inv .1),
       next-quotient _ _ _ (l .inv .2),
-      ⊎-elim (λ v. rw (v .8) (found-few _ _ _ _ (l .inv .3) (v .1 .ensures))) (λ v. rw (v .1) (l .inv .3)) (c .if2 .came),
+      ⊎-elim (λ v. rw (v .8) (found-room _ _ _ _ (l .inv .3) (v .1 .ensures))) (λ v. rw (v .1) (l .inv .3)) (c .if2 .came),
       ⊎-elim
           (λ v.
           let f : tie.After-entries-up-to Inv-loop μ-loop =

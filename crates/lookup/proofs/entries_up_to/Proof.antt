@@ -5,7 +5,7 @@ use Prim.Native.Nat.{ℕ, _-_, _≤_}
 use native.Mathlib.Omega.{arith}
 use borrow.Author.Needs.{needs}
 use Rattle.lookup.specs.Search.{halved, upTo, foundUpTo}
-use Rattle.lookup.proofs.Halving.{halving, goes-behind, goes-before, stays}
+use Rattle.lookup.proofs.Halving.{halving, goes-behind, goes-before, stays, tested}
 use Rattle.lookup.proofs.entries_up_to.Statement.{statement}
 use Rattle.lookup.proofs.entries_up_to.Tie as tie
 
@@ -29,14 +29,14 @@ sub-mid c = search needs
 add-mid : tie.Need-add-mid Inv-loop μ-loop
 add-mid c = search needs
 
-mul-at : tie.Need-mul-at Inv-loop μ-loop
-mul-at c = search needs
+mul-entry-in : tie.Need-mul-entry-in Inv-loop μ-loop
+mul-entry-in c = search needs
 
-add-at : tie.Need-add-at Inv-loop μ-loop
-add-at c = search needs
+add-entry-in : tie.Need-add-entry-in Inv-loop μ-loop
+add-entry-in c = search needs
 
-cast-at : tie.Need-cast-at Inv-loop μ-loop
-cast-at c = search needs
+entry-in-requires : tie.Need-entry-in-requires Inv-loop μ-loop
+entry-in-requires c κs = search needs
 
 is-not-after-requires : tie.Need-is-not-after-requires Inv-loop μ-loop
 is-not-after-requires c κs = search needs
@@ -49,8 +49,8 @@ loop-less c = search needs
 
 loop-again : tie.Need-loop-again Inv-loop μ-loop
 loop-again c =
-    let l = c .before .before .before .loop in
-    let p = sym (c .before .is-not-after .ensures) ∙ c .if1 .taken in
+    let l = c .before .before .before .before .loop in
+    let p = tested _ _ _ _ (c .before .before .entry-in .ensures) (c .before .is-not-after .ensures) (c .if1 .taken) in
     (l .inv .0 - 1, omega arith, omega arith, omega arith, l .inv .4 ∙ goes-behind _ _ _ _ (omega arith) (l .inv .1) p)
 
 loop-less-2 : tie.Need-loop-less-2 Inv-loop μ-loop
@@ -58,8 +58,8 @@ loop-less-2 c = search needs
 
 loop-again-2 : tie.Need-loop-again-2 Inv-loop μ-loop
 loop-again-2 c =
-    let l = c .before .before .before .loop in
-    let p = sym (c .before .is-not-after .ensures) ∙ c .if1 .left in
+    let l = c .before .before .before .before .loop in
+    let p = tested _ _ _ _ (c .before .before .entry-in .ensures) (c .before .is-not-after .ensures) (c .if1 .left) in
     (l .inv .0 - 1, omega arith, omega arith, omega arith, l .inv .4 ∙ goes-before _ _ _ _ (omega arith) (l .inv .1) p)
 
 returns : tie.Need-returns Inv-loop μ-loop
@@ -76,9 +76,9 @@ entries-up-to-spec =
     loop-holds
     sub-mid
     add-mid
-    mul-at
-    add-at
-    cast-at
+    mul-entry-in
+    add-entry-in
+    entry-in-requires
     is-not-after-requires
     add-lo
     loop-less

@@ -2,11 +2,11 @@
 -- Assumes nothing.
 use mathlib.Core.Path.{_≡_, refl, sym, _∙_}
 use mathlib.Core.List.{[], _∷_}
-use Prim.Native.Nat.{_+_, _*_}
+use Prim.Native.Nat.{_+_}
 use native.Mathlib.Omega.{arith}
 use borrow.Author.Needs.{needs}
 use borrow.Author.Tests.{not-true, not-false}
-use Rattle.book_words.specs.Layout.{headerWords, entryWords, entry, entriesFrom}
+use Rattle.book_words.specs.Layout.{entry, entriesFrom}
 use Rattle.book_words.proofs.Places.{puts-none}
 use Rattle.merge_rule.specs.Passes.{unlistedAs}
 use Rattle.merge.proofs.Stores.{puts-on}

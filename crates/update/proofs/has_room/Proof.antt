@@ -1,5 +1,5 @@
 -- `update::has_room` meets its contract: room for the most entries is room for those that there are. Assumes nothing.
-use mathlib.Core.Path.{refl, ap₂, sym}
+use mathlib.Core.Path.{ap₂, sym}
 use native.Mathlib.Omega.{arith}
 use borrow.Author.Needs.{needs}
 use borrow.Author.Tests.{le-leb}
