@@ -34,8 +34,8 @@ pub fn later(a: u64, b: u64) -> u64
 
 // Whether an offer is an increase over the one found for its code: a delete or a block always is, a rate if it is above the open
 // rate found.
-fn is_increase(found: Offer, offer: Offer) -> bool
-    ensures { λ r. ⌜ r ≡ raises found offer ⌝ }
+fn is_increase(old: &[u64], key: u64, day: u64, offer: Offer) -> bool
+    ensures { λ r. ⌜ r ≡ raises (foundIn (now (old .entry)) key day) offer ⌝ }
 {
     match offer {
         Offer::Closed => true,
@@ -44,15 +44,19 @@ fn is_increase(found: Offer, offer: Offer) -> bool
             rate,
             first: _,
             next: _,
-        } => match found {
-            Offer::Closed => false,
-            Offer::Blocked => false,
-            Offer::Open {
-                rate: standing,
-                first: _,
-                next: _,
-            } => standing.0 < rate.0,
-        },
+        } => {
+            let answer = lookup::best_offer(old, key, day);
+            let found = answer.offer;
+            match found {
+                Offer::Closed => false,
+                Offer::Blocked => false,
+                Offer::Open {
+                    rate: standing,
+                    first: _,
+                    next: _,
+                } => standing.0 < rate.0,
+            }
+        }
     }
 }
 
@@ -64,10 +68,8 @@ fn effective_day(old: &[u64], plan: Plan, line: Line) -> u64
     if plan.noticed {
         return later(wanted, plan.floor);
     }
-    let answer = lookup::best_offer(old, line.key, wanted);
-    let found = answer.offer;
     let offer = line.offer;
-    if is_increase(found, offer) {
+    if is_increase(old, line.key, wanted, offer) {
         return later(wanted, plan.floor);
     }
     wanted

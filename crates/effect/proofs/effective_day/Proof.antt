@@ -2,8 +2,7 @@
 use mathlib.Core.Path.{_≡_, ap, sym, _∙_}
 use Prim.Native.Nat.{max}
 use borrow.Author.Needs.{needs}
-use Rattle.lookup.specs.declared.Answer.{Answer}
-use Rattle.effect.specs.Lines.{foundIn, raises, wantedBy}
+use Rattle.effect.specs.Lines.{wantedBy}
 use Rattle.effect.proofs.DayLaws.{noticed-day, raised-day, wanted-day}
 use Rattle.effect.proofs.effective_day.Statement.{statement}
 use Rattle.effect.proofs.effective_day.Tie as tie
@@ -26,18 +25,6 @@ later-requires-2 c κs = search needs
 returns : tie.Need-returns
 returns c = noticed-day _ _ _ (c .before .if1 .taken) (wants (c .before .before)) (c .later2 .ensures)
 
-best-offer-requires : tie.Need-best-offer-requires
-best-offer-requires c κs = search needs
-
--- whether the line is an increase over what is found
-is-raised : (c : tie.After-is-increase) →
-    let a = c .before .before .before .before .before .before .args in
-    raises (foundIn (a .old .now) (a .line .key) (c .before .before .before .later .result)) (a .line .offer)
-    ≡ c .is-increase .result
-is-raised c =
-    let a = c .before .before .before .before .before .before .args in
-    sym (c .is-increase .ensures ∙ ap (λ (x : Answer). raises (x .offer) (a .line .offer)) (c .before .best-offer .ensures))
-
 is-increase-requires : tie.Need-is-increase-requires
 is-increase-requires c κs = search needs
 
@@ -47,13 +34,13 @@ later-requires-3 c κs = search needs
 returns-2 : tie.Need-returns-2
 returns-2 c =
     let d = c .before .before in
-    raised-day _ _ _ (d .before .before .if1 .left) (is-raised d ∙ c .before .if2 .taken) (wants (d .before .before .before))
+    raised-day _ _ _ (d .before .if1 .left) (sym (d .is-increase .ensures) ∙ c .before .if2 .taken) (wants (d .before .before))
     (c .later3 .ensures)
 
 returns-3 : tie.Need-returns-3
 returns-3 c =
     let d = c .before in
-    wanted-day _ _ _ (d .before .before .if1 .left) (is-raised d ∙ c .if2 .left) (wants (d .before .before .before))
+    wanted-day _ _ _ (d .before .if1 .left) (sym (d .is-increase .ensures) ∙ c .if2 .left) (wants (d .before .before))
 
 pub effective-day-spec : {M : Type 1} → statement M
 effective-day-spec =
@@ -63,7 +50,6 @@ effective-day-spec =
     later-requires
     later-requires-2
     returns
-    best-offer-requires
     is-increase-requires
     later-requires-3
     returns-2

@@ -1,7 +1,6 @@
--- `effect::is_increase` meets its contract. Assumes nothing.
-use Prim.Native.Nat.{_-_}
+-- `effect::is_increase` meets its contract: an open offer is held against the offer found. Assumes nothing.
 use borrow.Author.Needs.{needs}
-use borrow.Author.Needs.{needs}
+use Rattle.effect.proofs.DayLaws.{over-found}
 use Rattle.effect.proofs.is_increase.Statement.{statement}
 use Rattle.effect.proofs.is_increase.Tie as tie
 
@@ -13,6 +12,9 @@ enum-told-2 c = search needs
 
 enum-known-offer : tie.Need-enum-known-offer
 enum-known-offer c = search needs
+
+best-offer-requires : tie.Need-best-offer-requires
+best-offer-requires c κs = search needs
 
 enum-told-3 : tie.Need-enum-told-3
 enum-told-3 c = search needs
@@ -30,16 +32,19 @@ returns-2 : tie.Need-returns-2
 returns-2 c = search needs
 
 returns-3 : tie.Need-returns-3
-returns-3 c = search needs
+returns-3 c =
+    let d = c .before .before in
+    over-found _ _ _ (d .before .before .offer .given .1) (d .best-offer .ensures) (c .enum-told3 .given .1)
 
 returns-4 : tie.Need-returns-4
-returns-4 c = search needs
+returns-4 c =
+    let d = c .before .before in
+    over-found _ _ _ (d .before .before .offer .given .1) (d .best-offer .ensures) (c .enum-told4 .given .1)
 
 returns-5 : tie.Need-returns-5
 returns-5 c =
-    let f = c .before .before .before .found .given .1 in
-    let o = c .before .before .before .before .before .before .offer .given .1 in
-    rw (f, o)
+    let d = c .before .before .before .before .before in
+    over-found _ _ _ (d .before .before .offer .given .1) (d .best-offer .ensures) (c .before .before .before .found .given .1)
 
 pub is-increase-spec : {M : Type 1} → statement M
 is-increase-spec =
@@ -48,6 +53,7 @@ is-increase-spec =
     enum-told
     enum-told-2
     enum-known-offer
+    best-offer-requires
     enum-told-3
     enum-told-4
     enum-known-found
