@@ -8,7 +8,7 @@ use borrow.Author.Tests.{le-leb, lt-leb, leb-true}
 use lib.Dec.{leb}
 use lib.ListN.{length, drop}
 use Rattle.dial_code.proofs.Tests.{both, and-right-false}
-use Rattle.rate.specs.Time.{lastDay, lastReceivedDay}
+use Rattle.calendar.specs.Time.{lastDay, lastReceivedDay}
 use Rattle.book_words.specs.Layout.{headerWords, entryWords, mostPeriod}
 use Rattle.book_words.specs.Layout.{mostEntries, countOf, periodOf, receivedOf, latestOf, held, entriesOf}
 use Rattle.book.specs.Soundness.{soundEntries, allZero, soundHeader, headedCount, sound}

@@ -9,7 +9,7 @@ use lib.Dec.{eqb, leb, ltb}
 use lib.ListN.{length, drop}
 use Rattle.country_code.specs.Code.{isCodeKey}
 use Rattle.dial_code.proofs.Tests.{and-left-false, and-left-true, and-right-false, and-right-true}
-use Rattle.rate.specs.Time.{lastReceivedDay, lastDay}
+use Rattle.calendar.specs.Time.{lastReceivedDay, lastDay}
 use Rattle.book_words.specs.Layout.{headerWords, entryWords, mostPeriod}
 use Rattle.book_words.specs.Layout.{countOf, periodOf, receivedOf, latestOf, entriesOf, held}
 use Rattle.book.specs.Soundness.{isOfferWord, inRange, begins, follows, soundAfter, soundEntries}

@@ -8,7 +8,7 @@ use lib.Dec.{eqb}
 use lib.ListN.{length, drop, replicate, length-drop}
 use lib.Seq.{drop-at, drop-append-add}
 use Rattle.dial_code.proofs.Tests.{both}
-use Rattle.rate.specs.Time.{lastDay, lastReceivedDay}
+use Rattle.calendar.specs.Time.{lastDay, lastReceivedDay}
 use Rattle.book_words.specs.Layout.{headerWords, entryWords, mostPeriod, countOf, periodOf, receivedOf, latestOf, held}
 use Rattle.book_words.specs.Layout.{header, headerOf, wordsOfHeader, entriesOf, wordsOf, bookOf}
 use Rattle.book_words.specs.declared.Entry.{Entry}

@@ -10,7 +10,7 @@ use lib.Dec.{eqb, ltb}
 use lib.ListN.{length}
 use Rattle.country_code.specs.Code.{isCodeKey}
 use Rattle.dial_code.proofs.Tests.{both, and-left-true, Order, below, equal, above, order}
-use Rattle.rate.specs.Time.{lastDay}
+use Rattle.calendar.specs.Time.{lastDay}
 use Rattle.book_words.specs.Layout.{entriesOf}
 use Rattle.book.specs.Soundness.{isOfferWord, inRange, begins, follows, soundAfter, soundEntries, sound}
 use Rattle.book_words.specs.declared.Entry.{Entry}

@@ -12,7 +12,7 @@ ghost use Rattle.book.specs.Soundness.{isOfferWord, inRange, begins, fol
 ghost use Rattle.book.specs.Answers.{freshRefusal, freshWords, bookRefusal};
 use book_words::Entry;
 use book_words::Header;
-use rate::Day;
+use calendar::Day;
 use rate::Stored;
 
 const MOST_PERIOD: u64 = 365;

@@ -11,8 +11,8 @@ use Rattle.dial_code.specs.Digits.{digitOf, isDialled}
 use Rattle.dial_code.specs.Key.{key}
 use Rattle.country_code.specs.CountryCode.{country}
 use Rattle.country_code.specs.declared.Country.the-variants.{None}
-use Rattle.rate.specs.Time.{isDay}
-use Rattle.rate.specs.declared.Day.{Day}
+use Rattle.calendar.specs.Time.{isDay}
+use Rattle.calendar.specs.declared.Day.{Day}
 use Rattle.notice.specs.NoticeRule.{Notice, notice, readNotice, full}
 use Rattle.notice_line.specs.declared.Line.{Line}
 use Rattle.book_words.specs.Layout.{headerWords, periodOf, receivedOf, held, entriesOf}

@@ -20,8 +20,8 @@ use Rattle.notice_writing.proofs.LineBack as back
 use Rattle.notice.proofs.NoticeLaws as laws
 use Rattle.notice_writing.proofs.NoticeBack as backs
 use Rattle.dial_code.specs.Digits.{isWritten, isDialled}
-use Rattle.rate.specs.Time.{lastReceivedDay, isDay, isReceivedDay}
-use Rattle.rate.specs.declared.Day.{Day}
+use Rattle.calendar.specs.Time.{lastReceivedDay, isDay, isReceivedDay}
+use Rattle.calendar.specs.declared.Day.{Day}
 use Rattle.rate.specs.declared.Offer.the-variants.{Closed}
 use Rattle.book_words.specs.Layout.{headerWords, held, entriesOf}
 use Rattle.book.specs.Soundness.{sound}

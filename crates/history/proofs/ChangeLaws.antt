@@ -11,7 +11,7 @@ use Rattle.dial_code.specs.Key.{keysEnd}
 use Rattle.country_code.specs.Code.{isCodeKey}
 use Rattle.dial_code.proofs.Tests.{below, equal, above, order}
 use Rattle.country_code.proofs.CodeLaws.{beyond-keys}
-use Rattle.rate.specs.Time.{lastDay}
+use Rattle.calendar.specs.Time.{lastDay}
 use Rattle.book_words.specs.Layout.{entry}
 use Rattle.book.specs.Soundness.{isOfferWord, soundEntries}
 use Rattle.book.specs.Status.{statusFrom, statusIn}

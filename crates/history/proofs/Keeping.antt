@@ -11,7 +11,7 @@ use Rattle.country_code.specs.Code.{isCodeKey}
 use Rattle.rate.specs.OfferWord.{inRange}
 use Rattle.rate.specs.declared.Offer.{Offer}
 use Rattle.rate.specs.declared.Offer.the-variants.{Closed}
-use Rattle.rate.specs.Time.{lastDay, lastReceivedDay}
+use Rattle.calendar.specs.Time.{lastDay, lastReceivedDay}
 use Rattle.notice.specs.NoticeRule.{Notice, notice, readNotice, replacement}
 use Rattle.book_words.specs.Layout.{mostPeriod}
 use Rattle.notice_line.specs.declared.Line.{Line}

@@ -20,8 +20,8 @@ use Rattle.dial_code.proofs.DigitLaws.{dialled-digits}
 use Rattle.country_code.proofs.CountryLaws.{country-of-key}
 use Rattle.country_code.proofs.CodeLaws.{without-country}
 use Rattle.refusal.specs.Refusal.{bookTooShort}
-use Rattle.rate.specs.Time.{isDay}
-use Rattle.rate.specs.declared.Day.{Day}
+use Rattle.calendar.specs.Time.{isDay}
+use Rattle.calendar.specs.declared.Day.{Day}
 use Rattle.rate.specs.declared.Offer.the-variants.{Closed}
 use Rattle.notice.specs.NoticeRule.{Notice, readNotice, full, partial, replacement}
 use Rattle.notice_line.specs.declared.Line.{Line}

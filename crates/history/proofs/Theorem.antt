@@ -12,8 +12,8 @@ use Rattle.refusal.specs.Refusal.{receivedEarlier, bookTooShort, bookFull}
 use Rattle.dial_code.specs.Digits.{digitOf, isDialled}
 use Rattle.rate.specs.OfferWord.{offerOf}
 use Rattle.rate.specs.declared.Offer.the-variants.{Closed}
-use Rattle.rate.specs.Time.{isDay}
-use Rattle.rate.specs.declared.Day.{Day}
+use Rattle.calendar.specs.Time.{isDay}
+use Rattle.calendar.specs.declared.Day.{Day}
 use Rattle.notice.specs.NoticeRule.{Notice, Reading, notice, unread, readNotice}
 use Rattle.book_words.specs.Layout.{headerWords, held, entriesOf, bookOf, periodOf, receivedOf}
 use Rattle.book.specs.Soundness.{sound}

@@ -7,7 +7,7 @@ use Prim.Native.Nat.{ℕ, zero, suc, _+_}
 use lib.Dec.{eqb}
 use lib.ListN.{length}
 use Rattle.dial_code.specs.Key.{keysEnd}
-use Rattle.rate.specs.Time.{lastDay}
+use Rattle.calendar.specs.Time.{lastDay}
 use Rattle.book_words.specs.Layout.{entry}
 use Rattle.book_words.specs.declared.Entry.{Entry}
 

@@ -6,8 +6,8 @@ use Prim.Native.Nat.{ℕ}
 use lib.Dec.{eqb}
 use lib.ListN.{length}
 use Rattle.dial_code.specs.Digits.{digitOf, isDialled}
-use Rattle.rate.specs.Time.{isDay}
-use Rattle.rate.specs.declared.Day.{Day}
+use Rattle.calendar.specs.Time.{isDay}
+use Rattle.calendar.specs.declared.Day.{Day}
 use Rattle.notice.specs.NoticeRule.{Notice, Reading, notice, unread, readNotice}
 use Rattle.book_words.specs.Layout.{entriesOf}
 use Rattle.lookup.specs.Lookup.{lookup}

@@ -8,16 +8,16 @@ use Rattle.rate.specs.declared.Rate.{Rate}
 use Rattle.rate.specs.declared.Offer.{Offer}
 use Rattle.rate.specs.declared.Stored.the-variants.{Holds}
 use Rattle.rate.specs.declared.Priced.the-variants.{Open}
-use Rattle.rate.specs.declared.Day.{Day}
-use Rattle.rate.specs.declared.Moment.{Moment}
+use Rattle.calendar.specs.declared.Day.{Day}
+use Rattle.calendar.specs.declared.Moment.{Moment}
 use Rattle.rate.specs.OfferWord.{wordOf, offerOf, inRange}
-use Rattle.rate.specs.Charging.{longest, steps, chargedSeconds, amountOf}
+use Rattle.charging.specs.Charging.{longest, steps, chargedSeconds, amountOf}
 use Rattle.rate.specs.Price.{dearest, scaled, priceOf}
-use Rattle.rate.specs.Time.{isDay, isMoment, dayOf}
+use Rattle.calendar.specs.Time.{isDay, isMoment, dayOf}
 use Rattle.rate.proofs.Words as words
-use Rattle.rate.proofs.Charges as charges
+use Rattle.charging.proofs.Charges as charges
 use Rattle.rate.proofs.Prices as prices
-use Rattle.rate.proofs.Times as times
+use Rattle.calendar.proofs.Times as times
 
 -- Offers and offer words determine each other.
 

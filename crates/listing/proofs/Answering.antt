@@ -14,8 +14,8 @@ use Rattle.varint_writing.specs.declared.Written.{Written}
 use Rattle.varint_writing.specs.declared.Written.the-variants.{UpTo}
 use Rattle.varint.proofs.Slices.{sets-append}
 use Rattle.dial_code.proofs.Tests.{positive}
-use Rattle.rate.specs.Time.{isReceivedDay, lastReceivedDay}
-use Rattle.rate.specs.declared.Day.{Day}
+use Rattle.calendar.specs.Time.{isReceivedDay, lastReceivedDay}
+use Rattle.calendar.specs.declared.Day.{Day}
 use Rattle.notice.specs.NoticeRule.{full}
 use Rattle.notice_writing.specs.Layout.{headerFields, encodeHeader, encodeLines}
 use Rattle.notice_line.specs.declared.Line.{Line}

@@ -9,8 +9,8 @@ use borrow.Author.Tests.{eqb-true, leb-true, eq-eqb}
 use lib.Dec.{eqb}
 use lib.ListN.{length, take}
 use lib.Seq.{take-append-seam}
-use Rattle.rate.specs.Time.{lastReceivedDay}
-use Rattle.rate.specs.declared.Day.{Day}
+use Rattle.calendar.specs.Time.{lastReceivedDay}
+use Rattle.calendar.specs.declared.Day.{Day}
 use Rattle.notice.specs.NoticeRule.{notice, readNotice}
 use Rattle.notice_writing.specs.Layout.{encodeNotice}
 use Rattle.notice_line.specs.declared.Line.{Line}

@@ -10,8 +10,8 @@ use borrow.Author.Tests.{eq-eqb, le-leb}
 use lib.Dec.{leb}
 use lib.ListN.{length}
 use Rattle.dial_code.specs.Digits.{digitOf}
-use Rattle.rate.specs.Time.{isDay, lastReceivedDay}
-use Rattle.rate.specs.declared.Day.{Day}
+use Rattle.calendar.specs.Time.{isDay, lastReceivedDay}
+use Rattle.calendar.specs.declared.Day.{Day}
 use Rattle.rate.specs.declared.Offer.{Offer}
 use Rattle.rate.specs.declared.Offer.the-variants.{Closed}
 use Rattle.notice.specs.NoticeRule.{Notice, Reading, notice, readNotice}

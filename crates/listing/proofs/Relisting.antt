@@ -8,7 +8,7 @@ use native.Mathlib.Omega.{arith}
 use borrow.Author.Tests.{eqb-true, eqb-false}
 use lib.Dec.{eqb, leb}
 use lib.ListN.{length}
-use Rattle.rate.specs.Time.{lastDay, lastReceivedDay}
+use Rattle.calendar.specs.Time.{lastDay, lastReceivedDay}
 use Rattle.rate.specs.OfferWord.{offerOf, wordOf}
 use Rattle.rate.specs.declared.Offer.{Offer}
 use Rattle.rate.specs.declared.Offer.the-variants.{Closed, Blocked, Open}

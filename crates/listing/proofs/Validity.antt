@@ -11,7 +11,7 @@ use lib.Dec.{eqb, leb}
 use lib.ListN.{length}
 use Rattle.dial_code.proofs.Tests.{both, and-left-true, positive}
 use Rattle.country_code.proofs.CodeLaws.{no-first-digit}
-use Rattle.rate.specs.Time.{lastReceivedDay}
+use Rattle.calendar.specs.Time.{lastReceivedDay}
 use Rattle.notice_line.proofs.LineLaws.{ValidLine}
 use Rattle.notice.proofs.LinesLaws.{ValidFrom}
 use Rattle.notice.proofs.NoticeLaws.{Valid}

@@ -9,10 +9,10 @@ use lib.ListN.{length, drop, replicate}
 use Rattle.refusal.specs.Refusal.{bookTooShort, bookNotSound, bufferTooShort, timeOutOfRange, noOffer}
 use Rattle.dial_code.specs.Key.{key}
 use Rattle.country_code.specs.Code.{isCodeKey}
-use Rattle.rate.specs.Time.{lastReceivedDay, isReceivedDay}
+use Rattle.calendar.specs.Time.{lastReceivedDay, isReceivedDay}
 use Rattle.rate.specs.Price.{rate}
 use Rattle.rate.specs.OfferWord.{offerOf}
-use Rattle.rate.specs.declared.Day.{Day}
+use Rattle.calendar.specs.declared.Day.{Day}
 use Rattle.rate.specs.declared.Offer.{Offer}
 use Rattle.rate.specs.declared.Offer.the-variants.{Blocked, Open}
 use Rattle.notice_line.specs.LineRule.{lineOf}

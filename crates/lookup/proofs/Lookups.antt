@@ -12,8 +12,8 @@ use Rattle.dial_code.specs.Key.{key, digitsOfKey, numberKey}
 use Rattle.dial_code.specs.declared.Keyed.the-variants.{Key, Refused as NoKey}
 use Rattle.dial_code.proofs.DigitLaws.{dialled-digits}
 use Rattle.dial_code.proofs.KeyLaws.{digits-back}
-use Rattle.rate.specs.Time.{isDay}
-use Rattle.rate.specs.declared.Day.{Day}
+use Rattle.calendar.specs.Time.{isDay}
+use Rattle.calendar.specs.declared.Day.{Day}
 use Rattle.book.specs.Answers.{bookRefusal}
 use Rattle.lookup.specs.Match.{matched}
 use Rattle.lookup.specs.Lookup.{lookup}

@@ -5,8 +5,8 @@ use Prim.Native.Nat.{ℕ}
 use lib.Dec.{eqb}
 use Rattle.refusal.specs.Refusal.{notANumber, timeOutOfRange}
 use Rattle.dial_code.specs.Digits.{digitOf, isDialled}
-use Rattle.rate.specs.Time.{isDay}
-use Rattle.rate.specs.declared.Day.{Day}
+use Rattle.calendar.specs.Time.{isDay}
+use Rattle.calendar.specs.declared.Day.{Day}
 use Rattle.book_words.specs.Layout.{entriesOf}
 use Rattle.book.specs.Status.{offerIn}
 use Rattle.book.specs.Answers.{bookRefusal}

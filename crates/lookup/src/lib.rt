@@ -9,8 +9,8 @@ ghost use Rattle.lookup.specs.Match.{isStanding};
 ghost use Rattle.lookup.specs.Search.{notAfter, foundUpTo, lastEntry, ownWord, bestFound};
 ghost use Rattle.lookup.specs.Lookup.{lookup};
 use book_words::Entry;
+use calendar::Day;
 use dial_code::Keyed;
-use rate::Day;
 use rate::Offer;
 use rate::Stored;
 

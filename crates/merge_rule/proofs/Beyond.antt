@@ -4,7 +4,7 @@ use mathlib.Core.Bool.{true, true≢false}
 use mathlib.Core.List.{List, [], _∷_}
 use Prim.Native.Nat.{ℕ, suc, _+_, _≤_, _<_}
 use native.Mathlib.Omega.{arith}
-use Rattle.rate.specs.Time.{lastDay}
+use Rattle.calendar.specs.Time.{lastDay}
 use Rattle.country_code.specs.Code.{isCodeKey}
 use Rattle.dial_code.specs.Key.{keysEnd}
 use Rattle.dial_code.proofs.Tests.{Order, below, equal, above, order}

@@ -6,7 +6,7 @@ use Prim.Native.Nat.{ℕ, suc, _+_, _≤_, _<_}
 use native.Mathlib.Omega.{arith}
 use borrow.Author.Tests.{eq-eqb, ne-eqb, ltb-false, le-ltb}
 use lib.Dec.{eqb, ltb}
-use Rattle.rate.specs.Time.{lastDay}
+use Rattle.calendar.specs.Time.{lastDay}
 use Rattle.dial_code.proofs.Tests.{and-left-true, and-left-false, and-right-false}
 use Rattle.rate.specs.OfferWord.{offerOf}
 use Rattle.book.specs.Soundness.{isOfferWord, soundEntries}

@@ -7,7 +7,7 @@ use Prim.Native.Nat.{ℕ, _+_, _≤_, _<_}
 use native.Mathlib.Omega.{arith}
 use borrow.Author.Tests.{eq-eqb, ne-eqb}
 use lib.Dec.{eqb, leb}
-use Rattle.rate.specs.Time.{lastDay}
+use Rattle.calendar.specs.Time.{lastDay}
 use Rattle.dial_code.proofs.Tests.{below, equal, above, order}
 use Rattle.book.specs.Soundness.{soundEntries}
 use Rattle.book.specs.Status.{statusFrom, statusIn}

@@ -8,7 +8,7 @@ use Rattle.refusal.specs.Refusal.{unknownKind}
 use Rattle.varint.specs.declared.Number.{Number}
 use Rattle.varint.specs.declared.Number.the-variants.{Refused}
 use Rattle.dial_code.specs.Digits.{mostDigits}
-use Rattle.rate.specs.Time.{lastReceivedDay}
+use Rattle.calendar.specs.Time.{lastReceivedDay}
 use Rattle.varint.specs.Ranged.{andThen, inRange}
 use Rattle.notice.specs.NoticeRule.{mostLines, full, replacement, countryField, headerOf}
 use Rattle.notice.specs.declared.HeaderRead.{HeaderRead}

@@ -14,7 +14,7 @@ use Rattle.dial_code.specs.Digits.{mostDigits, digits}
 use Rattle.dial_code.specs.Key.{key}
 use Rattle.country_code.specs.CountryCode.{countryDigits, country}
 use Rattle.country_code.specs.Code.{isCode}
-use Rattle.rate.specs.Time.{lastDay, lastReceivedDay}
+use Rattle.calendar.specs.Time.{lastDay, lastReceivedDay}
 use Rattle.rate.specs.Price.{rate, priceOf}
 use Rattle.rate.specs.declared.Offer.the-variants.{Open}
 use Rattle.varint.specs.Ranged.{andThen, readRanged}

@@ -5,8 +5,8 @@ ghost use Rattle.notice.specs.NoticeRule.{countryField, readHeader};
 ghost use Rattle.notice.specs.Leading.{countryBy, linesBy, datedBy, headerBy};
 use crate::Header;
 use crate::HeaderRead;
+use calendar::Day;
 use dial_code::Keyed;
-use rate::Day;
 use varint::Number;
 use varint::Reader;
 

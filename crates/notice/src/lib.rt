@@ -6,8 +6,8 @@ ghost use Rattle.notice.specs.NoticeRule.{readLines, scanned, checkNotic
 
 mod leading;
 
+use calendar::Day;
 use notice_line::LineRead;
-use rate::Day;
 
 pub const MOST_LINES: u64 = 65_535;
 

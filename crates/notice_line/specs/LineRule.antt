@@ -16,7 +16,7 @@ use Rattle.country_code.specs.CountryCode.{country}
 use Rattle.country_code.specs.Code.{isCode}
 use Rattle.country_code.specs.declared.Country.{Country}
 use Rattle.country_code.specs.declared.Country.the-variants.{Code, None}
-use Rattle.rate.specs.Time.{lastDay}
+use Rattle.calendar.specs.Time.{lastDay}
 use Rattle.rate.specs.Price.{rate, mostDecimals, mostMantissa, priceOf}
 use Rattle.rate.specs.declared.Priced.{Priced}
 use Rattle.rate.specs.declared.Priced.the-variants as priced

@@ -6,9 +6,9 @@ ghost use Rattle.notice_line.specs.LineRule.{isCountry, codeField, readC
 
 mod pricing;
 
+use calendar::Day;
 use country_code::Country;
 use dial_code::Keyed;
-use rate::Day;
 use rate::Offer;
 use varint::Number;
 

@@ -1,5 +1,3 @@
--- The laws of rates, offer words, days and moments, and charges.
-pub mod Times
+-- The laws of rates and offer words.
 pub mod Prices
 pub mod Words
-pub mod Charges

@@ -1,5 +1,3 @@
--- The rules of rates, offers, days and moments, and charging.
-pub mod Time
+-- The rules of rates, offers and offer words.
 pub mod Price
 pub mod OfferWord
-pub mod Charging

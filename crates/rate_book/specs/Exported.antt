@@ -4,8 +4,8 @@ use mathlib.Core.Path.{_≡_, refl}
 use mathlib.Core.List.{[], _∷_}
 use Prim.Native.Nat.{ℕ, _+_, _*_, min}
 use Rattle.rate.specs.Price.{rate}
-use Rattle.rate.specs.declared.Day.{Day}
-use Rattle.rate.specs.declared.Moment.{Moment}
+use Rattle.calendar.specs.declared.Day.{Day}
+use Rattle.calendar.specs.declared.Moment.{Moment}
 use Rattle.rate.specs.declared.Offer.{Offer}
 use Rattle.rate.specs.declared.Offer.the-variants.{Closed, Blocked, Open}
 use Rattle.book_words.specs.Layout.{headerWords, entryWords, mostEntries, mostWords, held}

@@ -10,12 +10,12 @@ ghost use Rattle.batch.specs.Batch.{batchAnswer, batchRows};
 ghost use Rattle.listing.specs.List.{listAnswer, listBytes};
 ghost use Rattle.rate_book.specs.Exported.{day as dayAt, moment as momentAt, wordsFor, appliedOf, answerOf, offerOf, callOf, batchOf, listOf};
 use batch::Batch;
+use calendar::Day;
+use calendar::Moment;
 use history::Applied;
 use listing::Listed;
 use lookup::Answer;
 use lookup::Lookup;
-use rate::Day;
-use rate::Moment;
 use rate::Offer;
 use rating::Call;
 

@@ -13,7 +13,7 @@ use Rattle.notice.specs.declared.Checked.the-variants as checked
 use Rattle.notice.proofs.Checking.{Passed, check-passed, check-refused}
 use Rattle.notice.proofs.NoticeLaws.{notice-valid, notice-refusals}
 use Rattle.refusal.specs.Refusal.{bookTooShort, receivedEarlier, bookFull}
-use Rattle.rate.specs.Time.{lastReceivedDay}
+use Rattle.calendar.specs.Time.{lastReceivedDay}
 use Rattle.book_words.specs.Layout.{headerWords, entryWords, periodOf, receivedOf, latestOf, held, bookOf}
 use Rattle.book.specs.Soundness.{sound}
 use Rattle.book.specs.Answers.{bookRefusal}

@@ -10,7 +10,7 @@ use Rattle.dial_code.specs.Key.{key, digitsOfKey, keysEnd}
 use Rattle.country_code.specs.Code.{isCodeKey}
 use Rattle.country_code.proofs.CodeLaws.{beyond-keys, keyed-code, code-back}
 use Rattle.dial_code.proofs.Tests.{Order, below, equal, above, order}
-use Rattle.rate.specs.Time.{lastDay}
+use Rattle.calendar.specs.Time.{lastDay}
 use Rattle.rate.specs.OfferWord.{wordOf}
 use Rattle.rate.specs.declared.Offer.{Offer}
 use Rattle.rate.specs.declared.Offer.the-variants.{Closed}

@@ -9,7 +9,7 @@ use native.Mathlib.Omega.{arith}
 use borrow.Author.Tests.{lt-ltb, le-ltb, ltb-true, ltb-false, eqb-true}
 use lib.Dec.{eqb, ltb}
 use lib.ListN.{length}
-use Rattle.rate.specs.Time.{lastDay}
+use Rattle.calendar.specs.Time.{lastDay}
 use Rattle.notice.specs.NoticeRule.{Notice, replacement, earliest}
 use Rattle.notice_line.specs.declared.Line.{Line}
 use Rattle.notice.specs.declared.Summary.{Summary}

@@ -6,7 +6,7 @@ ghost use Prim.Native.Nat.{_+_, _*_, _≤_};
 ghost use lib.Dec.{leb};
 ghost use lib.ListN.{length};
 ghost use Rattle.country_code.specs.CountryCode.{countryOfKey};
-ghost use Rattle.rate.specs.Time.{lastReceivedDay};
+ghost use Rattle.calendar.specs.Time.{lastReceivedDay};
 ghost use Rattle.notice.specs.NoticeRule.{mostLines, checkNotice};
 ghost use Rattle.notice.specs.declared.Checked.the-variants.{Notice};
 ghost use Rattle.book_words.specs.Layout.{headerWords, entryWords, mostPeriod, held, bookOf, periodOf, latestOf};

@@ -12,10 +12,10 @@ use Rattle.dial_code.specs.Digits.{digitOf, isDialled}
 use Rattle.dial_code.specs.Key.{key, digitsOfKey}
 use Rattle.country_code.specs.CountryCode.{country, countryOfKey}
 use Rattle.rate.specs.Price.{rate}
-use Rattle.rate.specs.declared.Day.{Day}
-use Rattle.rate.specs.Charging.{chargeOf}
+use Rattle.calendar.specs.declared.Day.{Day}
+use Rattle.charging.specs.Charging.{chargeOf}
 use Rattle.rate.specs.declared.Offer.the-variants.{Closed, Open}
-use Rattle.rate.specs.declared.Charged.the-variants as charged
+use Rattle.charging.specs.declared.Charged.the-variants as charged
 use Rattle.notice.specs.NoticeRule.{Notice, notice, readNotice, readHeader}
 use Rattle.book_words.specs.Layout.{headerWords, entryWords, held}
 use Rattle.lookup.specs.Match.{answer, matched}

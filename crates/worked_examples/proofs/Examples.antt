@@ -12,13 +12,13 @@ use Rattle.country_code.specs.CountryCode.{country, countryOfKey}
 use Rattle.country_code.specs.Code.{isCode}
 use Rattle.rate.specs.Price.{rate, priceOf}
 use Rattle.rate.specs.OfferWord.{wordOf}
-use Rattle.rate.specs.Charging.{chargeOf}
+use Rattle.charging.specs.Charging.{chargeOf}
 use Rattle.rate.specs.declared.Offer.{Offer}
 use Rattle.rate.specs.declared.Offer.the-variants.{Closed, Open}
 use Rattle.rate.specs.declared.Priced.{Priced}
 use Rattle.rate.specs.declared.Priced.the-variants as priced
-use Rattle.rate.specs.declared.Charged.{Charged}
-use Rattle.rate.specs.declared.Charged.the-variants as charged
+use Rattle.charging.specs.declared.Charged.{Charged}
+use Rattle.charging.specs.declared.Charged.the-variants as charged
 use Rattle.varint.specs.Ranged.{readRanged}
 use Rattle.notice_line.specs.LineRule.{lineOf, codeField, readCode, readIncrements, readRate, readTerms, listedField, readListed}
 use Rattle.notice_line.specs.LineRule.{readLine}

@@ -7,7 +7,7 @@ use borrow.Author.Needs.{needs}
 use lib.ListN.{length}
 use Rattle.listing.proofs.write_list.Statement.{statement}
 use Rattle.listing.proofs.write_list.Tie as tie
-use Rattle.rate.specs.Time.{isReceivedDay}
+use Rattle.calendar.specs.Time.{isReceivedDay}
 use Rattle.book.specs.Answers.{bookRefusal}
 use Rattle.book.proofs.Usable.{usable-sound}
 use borrow.Author.Tests.{not-true, not-false, leb-true, leb-false}

@@ -4,8 +4,8 @@ use mathlib.Core.Bool.{Bool, true, false}
 use mathlib.Core.List.{[], _∷_}
 use Prim.Native.Nat.{ℕ, _+_, _*_, _/_}
 use lib.Dec.{leb, ltb}
-use Rattle.rate.specs.declared.Day.{Day}
-use Rattle.rate.specs.declared.Moment.{Moment}
+use Rattle.calendar.specs.declared.Day.{Day}
+use Rattle.calendar.specs.declared.Moment.{Moment}
 
 -- the last day, and the last day on which a notice can be received
 abbrev pub lastDay : ℕ

@@ -5,9 +5,9 @@ use mathlib.Core.Logic.{_↔_}
 use Prim.Native.Nat.{ℕ, _+_, _*_, _/_, _≤_}
 use native.Mathlib.Omega.{arith}
 use borrow.Author.Tests.{ltb-true, le-leb}
-use Rattle.rate.specs.Time.{isDay, isMoment, dayOf, lastDay, momentsEnd, secondsPerDay}
-use Rattle.rate.specs.declared.Day.{Day}
-use Rattle.rate.specs.declared.Moment.{Moment}
+use Rattle.calendar.specs.Time.{isDay, isMoment, dayOf, lastDay, momentsEnd, secondsPerDay}
+use Rattle.calendar.specs.declared.Day.{Day}
+use Rattle.calendar.specs.declared.Moment.{Moment}
 
 -- The day of a moment in range is in range.
 pub day-in-range : (m : Moment) → isMoment m ≡ true → isDay (dayOf m) ≡ true

@@ -1,0 +1,2 @@
+-- The laws of days and moments.
+pub mod Times

@@ -1,0 +1,2 @@
+-- The rules of days and moments.
+pub mod Time

@@ -1,0 +1,2 @@
+-- The rules of charging.
+pub mod Charging
