@@ -5,7 +5,7 @@ use mathlib.Core.List.{List}
 use Prim.Native.Nat.{ℕ, _^_}
 use lib.Dec.{eqb, leb, ltb}
 use Rattle.varint.specs.Reading.{readNumber}
-use Rattle.varint.specs.Standing.{placeAfter}
+use Rattle.varint_reader.specs.Standing.{placeAfter}
 use Rattle.varint.specs.declared.Number.{Number}
 use Rattle.varint.specs.declared.Number.the-variants.{Value, Refused}
 use Rattle.dial_code.specs.Digits.{digits}

@@ -8,7 +8,7 @@ use crate::HeaderRead;
 use calendar::Day;
 use dial_code::Keyed;
 use varint::Number;
-use varint::Reader;
+use varint_reader::Reader;
 
 // A replacement country's value field: exactly a country code.
 fn country_field(count: u64, value: u64, end: usize) -> Number

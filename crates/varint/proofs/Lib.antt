@@ -1,5 +1,4 @@
--- The model of read_number's loop, laws on groups, a number against a range, what reading tells, and how a caller has the
--- numbers of a reader.
+-- The model of read_number's loop, laws on groups, a number against a range, and what reading tells.
 pub mod Model
 pub mod Groups
 pub mod Values
@@ -9,4 +8,3 @@ pub mod Ranges
 pub mod Laws
 pub mod Told
 pub mod Slices
-pub mod Advance

@@ -1,4 +1,3 @@
--- The rules of reading numbers in groups of seven bits, and of a reader that gives them one by one.
+-- The rules of reading numbers in groups of seven bits.
 pub mod Reading
 pub mod Ranged
-pub mod Standing

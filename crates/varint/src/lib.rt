@@ -5,10 +5,6 @@ ghost use Prim.Native.Nat.{_<_};
 ghost use Rattle.varint.specs.Reading.{readNumber};
 ghost use Rattle.varint.specs.Ranged.{inRange, readRanged};
 
-mod reader;
-
-pub use reader::Reader;
-
 // At most so many groups.
 pub const MOST_GROUPS: u64 = 9;
 

@@ -39,20 +39,20 @@ use denote.Triple.Spec.{Meets, tripleOf}
 use denote.Triple.Table.{entered, cited}
 use denote.Triple.Walked.{says, Stays, stay-none-slice, walkOf, goes-none-slice, Walks, ends-at, walked, walk-meets}
 use denote.Exit.{yes}
-use Rattle.varint.specs.Standing.{movedOn}
+use Rattle.varint_reader.specs.Standing.{movedOn}
 use Rattle.varint.specs.declared.Number.{Number}
-use Rattle.varint.specs.declared.reader.Reader.{Reader}
+use Rattle.varint_reader.specs.declared.Reader.{Reader}
 use Rattle.varint.proofs.Number as N
-use Rattle.varint.proofs.reader.Reader as T
-use Rattle.varint.proofs.reader.Reader.Laws as T′
-use Rattle.varint.proofs.Advance.{R, givenBy, Next, lies-in, lies-out, gives}
-use Rattle.varint.proofs.reader.Reader.new as new
-use Rattle.varint.proofs.reader.Reader.new.Symbol as new-def
-use Rattle.varint.proofs.reader.Reader.new.Symbol.{name as #varint·reader·Reader·new}
-use Rattle.varint.proofs.reader.Reader.new.Met as new-thm
-use Rattle.varint.proofs.reader.Reader.next.Symbol as next-def
-use Rattle.varint.proofs.reader.Reader.next.Symbol.{name as #varint·reader·Reader·next}
-use Rattle.varint.proofs.reader.Reader.next.Met as next-thm
+use Rattle.varint_reader.proofs.Reader as T
+use Rattle.varint_reader.proofs.Reader.Laws as T′
+use Rattle.varint_reader.proofs.Advance.{R, givenBy, Next, lies-in, lies-out, gives}
+use Rattle.varint_reader.proofs.Reader.new as new
+use Rattle.varint_reader.proofs.Reader.new.Symbol as new-def
+use Rattle.varint_reader.proofs.Reader.new.Symbol.{name as #varint-reader·Reader·new}
+use Rattle.varint_reader.proofs.Reader.new.Met as new-thm
+use Rattle.varint_reader.proofs.Reader.next.Symbol as next-def
+use Rattle.varint_reader.proofs.Reader.next.Symbol.{name as #varint-reader·Reader·next}
+use Rattle.varint_reader.proofs.Reader.next.Met as next-thm
 use Rattle.notice.specs.NoticeRule.{readHeader}
 use Rattle.notice.specs.Leading.{headerBy}
 use Rattle.notice.specs.declared.HeaderRead.{HeaderRead}
@@ -164,8 +164,8 @@ module _ {M : Type 1} (𝓤 : URA M) (H : Heap 𝓤) (A : Atoms 𝓤) (W : Given
       nothing ! $ move ! (2 ∷ 0 ∷ []) $ join ! $ frame ! $ nothing ! $ move ! (2 ∷ 0 ∷ []) $ fjoin ! $ frame ! $ done !
 
   module _ (C : Calls 𝓤 H) (Λ : Loops 𝓤 H) (fm : FmC 𝓤 H (W .laws) C)
-      (known-new : Triple 𝓤 (C #varint·reader·Reader·new) (New 𝓤 H A mem run))
-      (known-next : Triple 𝓤 (C #varint·reader·Reader·next) (Next 𝓤 H A mem run))
+      (known-new : Triple 𝓤 (C #varint-reader·Reader·new) (New 𝓤 H A mem run))
+      (known-next : Triple 𝓤 (C #varint-reader·Reader·next) (Next 𝓤 H A mem run))
       (known-judge : Triple 𝓤 (C #notice·leading·header-by) (Judge 𝓤 H A mem run)) where
     walk : Is (ShrSlice (named 0) κ u8) s (v ∷ []) → ent 𝓤 (onEntry 𝓤 H A leads.signature (κ, tt) (q, tt) (s, tt) (v ∷ [], tt))
         (WpFn 𝓤 H C Λ code.function (v ∷ []) Post)
@@ -239,8 +239,8 @@ module _ {M : Type 1} (𝓤 : URA M) (H : Heap 𝓤) (A : Atoms 𝓤) (W : Given
 
 module _ {M : Type 1} (𝓤 : URA M) (H : Heap 𝓤) (A : Atoms 𝓤) (W : Given 𝓤 H A) (mem : Memory → SProp 𝓤) (run : Routine → Fun 𝓤)
   where
-    leads-walks : (C : Calls 𝓤 H) (Λ : Loops 𝓤 H) → FmC 𝓤 H (W .laws) C → Triple 𝓤 (C #varint·reader·Reader·new)
-        (New 𝓤 H A mem run) → Triple 𝓤 (C #varint·reader·Reader·next) (Next 𝓤 H A mem run) → Triple 𝓤
+    leads-walks : (C : Calls 𝓤 H) (Λ : Loops 𝓤 H) → FmC 𝓤 H (W .laws) C → Triple 𝓤 (C #varint-reader·Reader·new)
+        (New 𝓤 H A mem run) → Triple 𝓤 (C #varint-reader·Reader·next) (Next 𝓤 H A mem run) → Triple 𝓤
         (C #notice·leading·header-by) (Judge 𝓤 H A mem run)
         → Walks 𝓤 H A leads.ended stayed (WpFn 𝓤 H C Λ code.function) (leads.clauses 𝓤 H A mem run)
     leads-walks C Λ fm known-new known-next known-judge = walked 𝓤 H A leads.ended stayed (leads.clauses 𝓤 H A mem run)
@@ -250,7 +250,7 @@ module _ {M : Type 1} (𝓤 : URA M) (H : Heap 𝓤) (A : Atoms 𝓤) (W : Given
 
 leads-meets : {M : Type 1} (𝓤 : URA M) (H : Heap 𝓤) (A : Atoms 𝓤) (W : Given 𝓤 H A) (mem : Memory → SProp 𝓤)
     (run : Routine → Fun 𝓤) (𝓣 : Tables 𝓤 H)
-    → Triple 𝓤 (𝓣 .C #varint·reader·Reader·new) (New 𝓤 H A mem run) → Triple 𝓤 (𝓣 .C #varint·reader·Reader·next)
+    → Triple 𝓤 (𝓣 .C #varint-reader·Reader·new) (New 𝓤 H A mem run) → Triple 𝓤 (𝓣 .C #varint-reader·Reader·next)
     (Next 𝓤 H A mem run) → Triple 𝓤 (𝓣 .C #notice·leading·header-by) (Judge 𝓤 H A mem run)
     → Meets 𝓤 H A leads.signature (WpFn 𝓤 H (𝓣 .C) (𝓣 .Λ) code.function) (leads.spec 𝓤 H A mem run)
 leads-meets 𝓤 H A W mem run 𝓣 known-new known-next known-judge = walk-meets 𝓤 H A leads.ended stayed W
@@ -265,9 +265,9 @@ leading-fields-spec 𝓤 H 𝓜 𝓖 𝓡 =
     (tables 𝓤 H 𝓜 𝓡 code.env .C) (tables 𝓤 H 𝓜 𝓡 code.env .Λ) #notice·leading·leading-fields code.function
     (code.unfolded 𝓤 H 𝓜 𝓡)
     (leads-meets 𝓤 H (𝓖 .A) (givenOf 𝓤 H 𝓜 𝓖) (𝓜 .mem) (𝓡 .run) (tablesOf 𝓤 H 𝓜 (tables 𝓤 H 𝓜 𝓡 code.env))
-    (cited 𝓤 H (New 𝓤 H (𝓖 .A) (𝓜 .mem) (𝓡 .run)) 𝓜 𝓡 code.env #varint·reader·Reader·new new-def.routine
-    code.calls-varint·reader·Reader·new (new-thm.met 𝓤 H 𝓜 𝓖 𝓡))
-    (cited 𝓤 H (Next 𝓤 H (𝓖 .A) (𝓜 .mem) (𝓡 .run)) 𝓜 𝓡 code.env #varint·reader·Reader·next next-def.routine
-    code.calls-varint·reader·Reader·next (next-thm.met 𝓤 H 𝓜 𝓖 𝓡))
+    (cited 𝓤 H (New 𝓤 H (𝓖 .A) (𝓜 .mem) (𝓡 .run)) 𝓜 𝓡 code.env #varint-reader·Reader·new new-def.routine
+    code.calls-varint-reader·Reader·new (new-thm.met 𝓤 H 𝓜 𝓖 𝓡))
+    (cited 𝓤 H (Next 𝓤 H (𝓖 .A) (𝓜 .mem) (𝓡 .run)) 𝓜 𝓡 code.env #varint-reader·Reader·next next-def.routine
+    code.calls-varint-reader·Reader·next (next-thm.met 𝓤 H 𝓜 𝓖 𝓡))
     (cited 𝓤 H (Judge 𝓤 H (𝓖 .A) (𝓜 .mem) (𝓡 .run)) 𝓜 𝓡 code.env #notice·leading·header-by header-by-def.routine
     code.calls-notice·leading·header-by (header-by-thm.met 𝓤 H 𝓜 𝓖 𝓡)))

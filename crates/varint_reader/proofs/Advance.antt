@@ -37,16 +37,16 @@ use denote.Triple.Statement.{Contract, Triple}
 use denote.Triple.Call.{calls-at}
 use denote.Triple.Clauses.{ensured, lasts}
 use denote.Triple.Spec.{tripleOf}
 use Rattle.varint.specs.Reading.{readNumber}
-use Rattle.varint.specs.Standing.{movedOn}
+use Rattle.varint_reader.specs.Standing.{movedOn}
 use Rattle.varint.specs.declared.Number.{Number}
-use Rattle.varint.specs.declared.reader.Reader.{Reader}
+use Rattle.varint_reader.specs.declared.Reader.{Reader}
 use Rattle.varint.proofs.Number as N
 use Rattle.varint.proofs.Number.Laws as N′
-use Rattle.varint.proofs.reader.Reader as T
-use Rattle.varint.proofs.reader.Reader.Laws as T′
-use Rattle.varint.proofs.reader.Reader.next as next
-use Rattle.varint.proofs.reader.Reader.next.Symbol.{name as #varint·reader·Reader·next}
+use Rattle.varint_reader.proofs.Reader as T
+use Rattle.varint_reader.proofs.Reader.Laws as T′
+use Rattle.varint_reader.proofs.Reader.next as next
+use Rattle.varint_reader.proofs.Reader.next.Symbol.{name as #varint-reader·Reader·next}
 
 -- the lifetime of the bytes, and the reader's type at it
 abbrev pub α : Lft → NamedLft
@@ -119,13 +119,13 @@ module _ {M : Type 1} {𝓤 : URA M} {H : Heap 𝓤} {A : Atoms 𝓤} {K : Type 
     {C : Calls 𝓤 H} {Λ : Loops 𝓤 H} {p : Post 𝓤 H} {xs : List Operand} {d : Place} {rest : Code} where
   -- The call rule: the reader that lies at b gives its number, and lies there moved on.
   pub gives : K → FmC 𝓤 H (W .laws) C → (at-mem : Memory → SProp 𝓤) (run : Routine → Fun 𝓤) → Triple 𝓤
-      (C #varint·reader·Reader·next) (Next 𝓤 H A at-mem run)
+      (C #varint-reader·Reader·next) (Next 𝓤 H A at-mem run)
       → (κ : Lft) (q : Share) (h : Reader) (b : ℕ)
       → ((ν : ℕ) (δ : GName) → Opds K W (raw (Next 𝓤 H A at-mem run .pre (to 𝓤 H A at-mem run κ q h b ν δ)) ∷ raw
       (kept 𝓤 H A at-mem run κ q h b ν δ) ∷ Γ) E xs (vptr b 0 ∷ []))
       → ((u : Val) → Holds (hasTy N′.mir u) × WT u → Seq K W (‵ (mem (R κ) .lies (movedOn h) b 0) ∷ ‵ (flft κ q) ∷ ‵
       (N.the-row .own (givenBy h) (u ∷ [])) ∷ Γ) (lands C Λ E d u rest p))
-      → Seq K W (‵ (mem (R κ) .lies h b 0) ∷ ‵ (flft κ q) ∷ Γ) (runs C Λ E (seq (call #varint·reader·Reader·next xs d) rest) p)
+      → Seq K W (‵ (mem (R κ) .lies h b 0) ∷ ‵ (flft κ q) ∷ Γ) (runs C Λ E (seq (call #varint-reader·Reader·next xs d) rest) p)
   gives t fm at-mem run known κ q h b os k =
       lft-new t tt (λ ν.
       use1 W (‵ (flft (ν ∷ []) (PosShare·left q)) ⊛ raw (wand 𝓤 (A .lft (ν ∷ []) (PosShare·left q))

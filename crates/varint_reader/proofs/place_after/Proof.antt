@@ -1,9 +1,9 @@
--- `varint::reader::place_after` meets its contract: one return for each answer. Assumes nothing.
+-- `varint_reader::place_after` meets its contract: one return for each answer. Assumes nothing.
 use mathlib.Core.Path.{ap, sym}
 use borrow.Author.Needs.{needs}
-use Rattle.varint.specs.Standing.{placeAfter}
-use Rattle.varint.proofs.reader.place_after.Statement.{statement}
-use Rattle.varint.proofs.reader.place_after.Tie as tie
+use Rattle.varint_reader.specs.Standing.{placeAfter}
+use Rattle.varint_reader.proofs.place_after.Statement.{statement}
+use Rattle.varint_reader.proofs.place_after.Tie as tie
 
 enum-known-read : tie.Need-enum-known-read
 enum-known-read c = search needs

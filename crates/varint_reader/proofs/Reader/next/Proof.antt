@@ -1,4 +1,4 @@
--- `varint::reader::Reader::next` meets its contract: a walk of its MIR, by hand. The borrow is opened, `read_number` is called
+-- `varint_reader::Reader::next` meets its contract: a walk of its MIR, by hand. The borrow is opened, `read_number` is called
 -- on the slice and the position that the reader holds, `place_after` on what it answered, and the borrow is closed at the
 -- reader moved on.
 -- The reader is Copy: of one copy of what it owns the slice's part goes to `read_number`, beside the lifetime's token, which
@@ -49,26 +49,26 @@ use denote.Triple.Entry.{Vals, onEntry}
 use denote.Triple.Spec.{Meets, tripleOf}
 use denote.Triple.Table.{entered, cited}
 use denote.Triple.Walked.{says, Stays, stay-ref, walkOf, goes-ref, Walks, ends-at, walked, walk-meets}
 use Rattle.varint.specs.Reading.{readNumber}
-use Rattle.varint.specs.Standing.{placeAfter}
+use Rattle.varint_reader.specs.Standing.{placeAfter}
 use Rattle.varint.specs.declared.Number.{Number}
-use Rattle.varint.specs.declared.reader.Reader.{Reader}
+use Rattle.varint_reader.specs.declared.Reader.{Reader}
 use Rattle.varint.proofs.Number as N
 use Rattle.varint.proofs.Number.Laws as N′
-use Rattle.varint.proofs.reader.Reader as T
-use Rattle.varint.proofs.reader.Reader.Laws as T′
+use Rattle.varint_reader.proofs.Reader as T
+use Rattle.varint_reader.proofs.Reader.Laws as T′
 use Rattle.varint.proofs.read_number as reads
 use Rattle.varint.proofs.read_number.Symbol as reads-def
 use Rattle.varint.proofs.read_number.Symbol.{name as #varint·read-number}
 use Rattle.varint.proofs.read_number.Met as reads-thm
-use Rattle.varint.proofs.reader.place_after as places
-use Rattle.varint.proofs.reader.place_after.Symbol as places-def
-use Rattle.varint.proofs.reader.place_after.Symbol.{name as #varint·reader·place-after}
-use Rattle.varint.proofs.reader.place_after.Met as places-thm
-use Rattle.varint.proofs.reader.Reader.next.Key.{name as #varint·reader·Reader·next}
-use Rattle.varint.proofs.reader.Reader.next as next
-use Rattle.varint.proofs.reader.Reader.next.Statement as stated
-use Rattle.varint.proofs.reader.Reader.next.Code as code
+use Rattle.varint_reader.proofs.place_after as places
+use Rattle.varint_reader.proofs.place_after.Symbol as places-def
+use Rattle.varint_reader.proofs.place_after.Symbol.{name as #varint-reader·place-after}
+use Rattle.varint_reader.proofs.place_after.Met as places-thm
+use Rattle.varint_reader.proofs.Reader.next.Key.{name as #varint-reader·Reader·next}
+use Rattle.varint_reader.proofs.Reader.next as next
+use Rattle.varint_reader.proofs.Reader.next.Statement as stated
+use Rattle.varint_reader.proofs.Reader.next.Code as code
 
 -- `Reader<'a>`, as the referent's place in the signature
 abbrev behind : Slot 2
@@ -211,7 +211,7 @@ module _ {M : Type 1} (𝓤 : URA M) (H : Heap 𝓤) (A : Atoms 𝓤) (W : Given
 
   module _ (C : Calls 𝓤 H) (Λ : Loops 𝓤 H) (fm : FmC 𝓤 H (W .laws) C)
       (known-reads : Triple 𝓤 (C #varint·read-number) (Reads 𝓤 H A at-mem run))
-      (known-places : Triple 𝓤 (C #varint·reader·place-after) (Places 𝓤 H A at-mem run)) where
+      (known-places : Triple 𝓤 (C #varint-reader·place-after) (Places 𝓤 H A at-mem run)) where
     walk : ent 𝓤 (onEntry 𝓤 H A next.signature (κ, (κ′, tt)) (q, (q′, tt)) x at)
         (WpFn 𝓤 H C Λ code.function (vptr b o ∷ []) Post)
     walk =
@@ -276,7 +276,7 @@ module _ {M : Type 1} (𝓤 : URA M) (H : Heap 𝓤) (A : Atoms 𝓤) (W : Given
 module _ {M : Type 1} (𝓤 : URA M) (H : Heap 𝓤) (A : Atoms 𝓤) (W : Given 𝓤 H A) (mem : Memory → SProp 𝓤) (run : Routine → Fun 𝓤)
   where
     next-walks : (C : Calls 𝓤 H) (Λ : Loops 𝓤 H) → FmC 𝓤 H (W .laws) C → Triple 𝓤 (C #varint·read-number) (Reads 𝓤 H A mem run) →
-        Triple 𝓤 (C #varint·reader·place-after) (Places 𝓤 H A mem run)
+        Triple 𝓤 (C #varint-reader·place-after) (Places 𝓤 H A mem run)
         → Walks 𝓤 H A next.ended stayed (WpFn 𝓤 H C Λ code.function) (next.clauses 𝓤 H A mem run)
     next-walks C Λ fm known-reads known-places = walked 𝓤 H A next.ended stayed (next.clauses 𝓤 H A mem run)
         (WpFn 𝓤 H C Λ code.function) (λ κs. (ptr-vals, tt)) (λ κs. (
@@ -288,7 +288,7 @@ module _ {M : Type 1} (𝓤 : URA M) (H : Heap 𝓤) (A : Atoms 𝓤) (W : Given
 
 next-meets : {M : Type 1} (𝓤 : URA M) (H : Heap 𝓤) (A : Atoms 𝓤) (W : Given 𝓤 H A) (mem : Memory → SProp 𝓤)
     (run : Routine → Fun 𝓤) (𝓣 : Tables 𝓤 H)
-    → Triple 𝓤 (𝓣 .C #varint·read-number) (Reads 𝓤 H A mem run) → Triple 𝓤 (𝓣 .C #varint·reader·place-after)
+    → Triple 𝓤 (𝓣 .C #varint·read-number) (Reads 𝓤 H A mem run) → Triple 𝓤 (𝓣 .C #varint-reader·place-after)
     (Places 𝓤 H A mem run)
     → Meets 𝓤 H A next.signature (WpFn 𝓤 H (𝓣 .C) (𝓣 .Λ) code.function) (next.spec 𝓤 H A mem run)
 next-meets 𝓤 H A W mem run 𝓣 known-reads known-places = walk-meets 𝓤 H A next.ended stayed W
@@ -300,9 +300,9 @@ pub next-spec : {M : Type 1} → stated.statement M
 unfolding code.routine tablesOf
 next-spec 𝓤 H 𝓜 𝓖 𝓡 =
     entered 𝓤 H (tripleOf 𝓤 H (𝓖 .A) next.signature (next.spec 𝓤 H (𝓖 .A) (𝓜 .mem) (𝓡 .run)))
-    (tables 𝓤 H 𝓜 𝓡 code.env .C) (tables 𝓤 H 𝓜 𝓡 code.env .Λ) #varint·reader·Reader·next code.function (code.unfolded 𝓤 H 𝓜 𝓡)
+    (tables 𝓤 H 𝓜 𝓡 code.env .C) (tables 𝓤 H 𝓜 𝓡 code.env .Λ) #varint-reader·Reader·next code.function (code.unfolded 𝓤 H 𝓜 𝓡)
     (next-meets 𝓤 H (𝓖 .A) (givenOf 𝓤 H 𝓜 𝓖) (𝓜 .mem) (𝓡 .run) (tablesOf 𝓤 H 𝓜 (tables 𝓤 H 𝓜 𝓡 code.env))
     (cited 𝓤 H (Reads 𝓤 H (𝓖 .A) (𝓜 .mem) (𝓡 .run)) 𝓜 𝓡 code.env #varint·read-number reads-def.routine
     code.calls-varint·read-number (reads-thm.met 𝓤 H 𝓜 𝓖 𝓡))
-    (cited 𝓤 H (Places 𝓤 H (𝓖 .A) (𝓜 .mem) (𝓡 .run)) 𝓜 𝓡 code.env #varint·reader·place-after places-def.routine
-    code.calls-varint·reader·place-after (places-thm.met 𝓤 H 𝓜 𝓖 𝓡)))
+    (cited 𝓤 H (Places 𝓤 H (𝓖 .A) (𝓜 .mem) (𝓡 .run)) 𝓜 𝓡 code.env #varint-reader·place-after places-def.routine
+    code.calls-varint-reader·place-after (places-thm.met 𝓤 H 𝓜 𝓖 𝓡)))

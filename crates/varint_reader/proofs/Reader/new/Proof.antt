@@ -1,4 +1,4 @@
--- `varint::reader::Reader::new` meets its contract: a walk of its MIR, by hand. A `Reader` is made of the slice passed and 0,
+-- `varint_reader::Reader::new` meets its contract: a walk of its MIR, by hand. A `Reader` is made of the slice passed and 0,
 -- in the result's local.
 -- A `&[u8]` is Copy, so what it owns is had twice: once for src at exit, and once inside the result, beside the facts of at.
 -- Assumes nothing.
@@ -36,13 +36,13 @@ use denote.Triple.Spec.{Meets, tripleOf}
 use denote.Triple.Table.{entered}
 use denote.Triple.Walked.{says, Stays, stay-none-slice, walkOf, goes-none-slice, Walks, ends-at, walked, walk-meets}
 use denote.Exit.{yes}
-use Rattle.varint.specs.declared.reader.Reader.{Reader}
-use Rattle.varint.proofs.reader.Reader as T
-use Rattle.varint.proofs.reader.Reader.Laws as T′
-use Rattle.varint.proofs.reader.Reader.new.Key.{name as #varint·reader·Reader·new}
-use Rattle.varint.proofs.reader.Reader.new as new
-use Rattle.varint.proofs.reader.Reader.new.Statement as stated
-use Rattle.varint.proofs.reader.Reader.new.Code as code
+use Rattle.varint_reader.specs.declared.Reader.{Reader}
+use Rattle.varint_reader.proofs.Reader as T
+use Rattle.varint_reader.proofs.Reader.Laws as T′
+use Rattle.varint_reader.proofs.Reader.new.Key.{name as #varint-reader·Reader·new}
+use Rattle.varint_reader.proofs.Reader.new as new
+use Rattle.varint_reader.proofs.Reader.new.Statement as stated
+use Rattle.varint_reader.proofs.Reader.new.Code as code
 
 abbrev stayed : Stays (new.ended .signature .params) (new.ended .kept)
 stayed = (stay-none-slice (0 ∷ []) tt (plain (λ _. u8)) yes, tt)
@@ -116,5 +116,5 @@ pub new-spec : {M : Type 1} → stated.statement M
 unfolding code.routine tablesOf
 new-spec 𝓤 H 𝓜 𝓖 𝓡 =
     entered 𝓤 H (tripleOf 𝓤 H (𝓖 .A) new.signature (new.spec 𝓤 H (𝓖 .A) (𝓜 .mem) (𝓡 .run)))
-    (tables 𝓤 H 𝓜 𝓡 code.env .C) (tables 𝓤 H 𝓜 𝓡 code.env .Λ) #varint·reader·Reader·new code.function (code.unfolded 𝓤 H 𝓜 𝓡)
+    (tables 𝓤 H 𝓜 𝓡 code.env .C) (tables 𝓤 H 𝓜 𝓡 code.env .Λ) #varint-reader·Reader·new code.function (code.unfolded 𝓤 H 𝓜 𝓡)
     (new-meets 𝓤 H (𝓖 .A) (givenOf 𝓤 H 𝓜 𝓖) (𝓜 .mem) (𝓡 .run) (tablesOf 𝓤 H 𝓜 (tables 𝓤 H 𝓜 𝓡 code.env)))

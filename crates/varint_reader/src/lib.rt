@@ -1,8 +1,8 @@
 // A reader stands in a notice and gives its numbers one by one (document 01, "Notice layout").
 ghost use mathlib.Core.Path.{_≡_};
 ghost use Rattle.varint.specs.Reading.{readNumber};
-ghost use Rattle.varint.specs.Standing.{placeAfter, movedOn};
-use crate::Number;
+ghost use Rattle.varint_reader.specs.Standing.{placeAfter, movedOn};
+use varint::Number;
 
 // The bytes, and the position of the next number in them.
 pub struct Reader<'a> {
@@ -34,7 +34,7 @@ impl<'a> Reader<'a> {
             × (now (self .exit) ≡ movedOn (now (self .entry))) ⌝ }
     {
         let at = self.at;
-        let read = crate::read_number(self.src, at);
+        let read = varint::read_number(self.src, at);
         self.at = place_after(at, read);
         read
     }

@@ -1,0 +1,2 @@
+-- How a caller has the numbers of a reader.
+pub mod Advance

@@ -1,0 +1,2 @@
+-- The rule of a reader that gives numbers one by one.
+pub mod Standing
