@@ -7,7 +7,7 @@ use native.Mathlib.Omega.{arith}
 use borrow.Author.Tests.{le-leb, lt-leb, lt-ltb, le-ltb, eq-eqb, ne-eqb}
 use lib.Dec.{eqb, leb, ltb}
 use lib.ListN.{length, drop}
-use Rattle.country_code.specs.Code.{isCodeKey}
+use Rattle.allowed_code.specs.Code.{isCodeKey}
 use Rattle.dial_code.proofs.Tests.{and-left-false, and-left-true, and-right-false, and-right-true}
 use Rattle.calendar.specs.Time.{lastReceivedDay, lastDay}
 use Rattle.book_words.specs.Layout.{headerWords, entryWords, mostPeriod}

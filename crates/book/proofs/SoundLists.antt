@@ -8,7 +8,7 @@ use native.Mathlib.Omega.{arith}
 use borrow.Author.Tests.{leb-true, ltb-true, eqb-true, eqb-false, not-true, ne-eqb}
 use lib.Dec.{eqb, ltb}
 use lib.ListN.{length}
-use Rattle.country_code.specs.Code.{isCodeKey}
+use Rattle.allowed_code.specs.Code.{isCodeKey}
 use Rattle.dial_code.proofs.Tests.{both, and-left-true, Order, below, equal, above, order}
 use Rattle.calendar.specs.Time.{lastDay}
 use Rattle.book_words.specs.Layout.{entriesOf}

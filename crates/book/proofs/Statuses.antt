@@ -7,7 +7,7 @@ use native.Mathlib.Omega.{arith}
 use borrow.Author.Tests.{le-leb, lt-leb, eq-eqb, ne-eqb}
 use lib.Dec.{eqb, leb}
 use lib.ListN.{length}
-use Rattle.country_code.specs.Code.{isCodeKey}
+use Rattle.allowed_code.specs.Code.{isCodeKey}
 use Rattle.dial_code.proofs.Tests.{and-left-true, and-left-false, and-right-false}
 use Rattle.calendar.specs.Time.{lastDay}
 use Rattle.rate.specs.OfferWord.{offerOf, wordOf}

@@ -6,7 +6,7 @@ ghost use Prim.Native.Nat.{_+_, _*_, _≤_};
 ghost use mathlib.Core.Bool.{true};
 ghost use lib.Dec.{eqb};
 ghost use lib.ListN.{length, drop};
-ghost use Rattle.country_code.specs.Code.{isCodeKey};
+ghost use Rattle.allowed_code.specs.Code.{isCodeKey};
 ghost use Rattle.book_words.specs.Layout.{headerWords, mostEntries, countOf, entriesFrom};
 ghost use Rattle.book.specs.Soundness.{isOfferWord, inRange, begins, follows, soundEntries, allZero, soundHeader, headedCount, sound};
 ghost use Rattle.book.specs.Answers.{freshRefusal, freshWords, bookRefusal};
@@ -53,7 +53,7 @@ fn can_begin(e: Entry) -> bool
     if !can_open(e) {
         return false;
     }
-    country_code::is_code_key(e.key)
+    allowed_code::is_code_key(e.key)
 }
 
 // Whether one entry can stand after another, which is of an allowed code.
@@ -76,7 +76,7 @@ fn can_follow(e: Entry, f: Entry) -> bool
     if !can_open(f) {
         return false;
     }
-    country_code::is_code_key_after(e.key, f.key)
+    allowed_code::is_code_key_after(e.key, f.key)
 }
 
 // Whether the first entries are sound, each read once and held against the one before it.

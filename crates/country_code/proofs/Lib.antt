@@ -1,6 +1,3 @@
--- The laws of country codes and allowed codes.
+-- The laws of country codes and of stretches.
 pub mod CountryLaws
 pub mod StretchLaws
-pub mod CodeLaws
-pub mod SentBack
-pub mod SentCodes

@@ -1,4 +1,3 @@
--- The rules of country codes and of allowed codes.
+-- The rules of country codes, and of words with the same first three places.
 pub mod CountryCode
 pub mod Stretches
-pub mod Code

@@ -7,9 +7,9 @@ use Prim.Native.Nat.{ℕ, _+_, _*_, _≤_, _<_}
 use lib.Dec.{leb}
 use lib.ListN.{length, take, drop}
 use Rattle.dial_code.specs.Key.{codeKey, codeOf}
-use Rattle.country_code.specs.Code.{isCodeKey}
+use Rattle.allowed_code.specs.Code.{isCodeKey}
 use Rattle.dial_code.specs.declared.Keyed.the-variants.{Key}
-use Rattle.country_code.proofs.SentBack as codes
+use Rattle.allowed_code.proofs.SentBack as codes
 use Rattle.notice_line.specs.LineRule.{readLine}
 use Rattle.notice.specs.NoticeRule.{Notice, notice, unread, readNotice}
 use Rattle.notice_writing.specs.Layout.{encodeLine, encodeNotice}

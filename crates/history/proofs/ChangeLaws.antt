@@ -8,9 +8,9 @@ use native.Mathlib.Omega.{arith}
 use borrow.Author.Tests.{eqb-true, eqb-false}
 use lib.Dec.{eqb}
 use Rattle.dial_code.specs.Key.{keysEnd}
-use Rattle.country_code.specs.Code.{isCodeKey}
+use Rattle.allowed_code.specs.Code.{isCodeKey}
 use Rattle.dial_code.proofs.Tests.{below, equal, above, order}
-use Rattle.country_code.proofs.CodeLaws.{beyond-keys}
+use Rattle.allowed_code.proofs.CodeLaws.{beyond-keys}
 use Rattle.calendar.specs.Time.{lastDay}
 use Rattle.book_words.specs.Layout.{entry}
 use Rattle.book.specs.Soundness.{isOfferWord, soundEntries}

@@ -18,7 +18,7 @@ use Rattle.country_code.specs.declared.Country.the-variants.{Code, None}
 use Rattle.dial_code.proofs.Tests.{both, and-left-true}
 use Rattle.dial_code.proofs.DigitLaws.{dialled-digits}
 use Rattle.country_code.proofs.CountryLaws.{country-of-key}
-use Rattle.country_code.proofs.CodeLaws.{without-country}
+use Rattle.allowed_code.proofs.CodeLaws.{without-country}
 use Rattle.refusal.specs.Refusal.{bookTooShort}
 use Rattle.calendar.specs.Time.{isDay}
 use Rattle.calendar.specs.declared.Day.{Day}

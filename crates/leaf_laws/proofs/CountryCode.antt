@@ -9,10 +9,10 @@ use Rattle.dial_code.specs.Digits.{every, isDigit}
 use Rattle.dial_code.specs.Key.{key, keysEnd}
 use Rattle.country_code.specs.CountryCode.{country, countryOfKey}
 use Rattle.country_code.specs.Stretches.{samePlaces, isWithin, stretchOf}
-use Rattle.country_code.specs.Code.{isCode, isCodeKey, isCodeKeyAfter}
+use Rattle.allowed_code.specs.Code.{isCode, isCodeKey, isCodeKeyAfter}
 use Rattle.country_code.proofs.CountryLaws as country-laws
 use Rattle.country_code.proofs.StretchLaws as stretch-laws
-use Rattle.country_code.proofs.CodeLaws as code-laws
+use Rattle.allowed_code.proofs.CodeLaws as code-laws
 
 -- The key of an allowed code passes the test of words.
 pub code-keyed : (ds : List ℕ) → isCode ds ≡ true → isCodeKey (key ds) ≡ true

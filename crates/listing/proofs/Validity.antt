@@ -10,7 +10,7 @@ use borrow.Author.Tests.{leb-true, eqb-false, not-true, leb-false}
 use lib.Dec.{eqb, leb}
 use lib.ListN.{length}
 use Rattle.dial_code.proofs.Tests.{both, and-left-true, positive}
-use Rattle.country_code.proofs.CodeLaws.{no-first-digit}
+use Rattle.allowed_code.proofs.CodeLaws.{no-first-digit}
 use Rattle.calendar.specs.Time.{lastReceivedDay}
 use Rattle.notice_line.proofs.LineLaws.{ValidLine}
 use Rattle.notice.proofs.LinesLaws.{ValidFrom}

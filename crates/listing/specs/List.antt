@@ -8,7 +8,7 @@ use lib.Dec.{eqb, leb}
 use lib.ListN.{length, drop, replicate}
 use Rattle.refusal.specs.Refusal.{bookTooShort, bookNotSound, bufferTooShort, timeOutOfRange, noOffer}
 use Rattle.dial_code.specs.Key.{key}
-use Rattle.country_code.specs.Code.{isCodeKey}
+use Rattle.allowed_code.specs.Code.{isCodeKey}
 use Rattle.calendar.specs.Time.{lastReceivedDay, isReceivedDay}
 use Rattle.rate.specs.Price.{rate}
 use Rattle.rate.specs.OfferWord.{offerOf}

@@ -18,7 +18,7 @@ use Rattle.dial_code.proofs.KeyLaws.{key-take, whole}
 use Rattle.dial_code.proofs.CountedKeys.{next-weight}
 use Rattle.dial_code.proofs.Places.{beyond, all-places}
 use Rattle.dial_code.proofs.Places.{length-places, digits-places}
-use Rattle.country_code.proofs.CodeLaws.{no-first-digit}
+use Rattle.allowed_code.proofs.CodeLaws.{no-first-digit}
 use Rattle.rate.specs.OfferWord.{offerOf}
 use Rattle.rate.specs.declared.Offer.{Offer}
 use Rattle.rate.specs.declared.Offer.the-variants.{Closed, Blocked, Open}

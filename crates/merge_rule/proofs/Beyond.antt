@@ -5,10 +5,10 @@ use mathlib.Core.List.{List, [], _∷_}
 use Prim.Native.Nat.{ℕ, suc, _+_, _≤_, _<_}
 use native.Mathlib.Omega.{arith}
 use Rattle.calendar.specs.Time.{lastDay}
-use Rattle.country_code.specs.Code.{isCodeKey}
+use Rattle.allowed_code.specs.Code.{isCodeKey}
 use Rattle.dial_code.specs.Key.{keysEnd}
 use Rattle.dial_code.proofs.Tests.{Order, below, equal, above, order}
-use Rattle.country_code.proofs.CodeLaws.{beyond-keys, no-first-digit}
+use Rattle.allowed_code.proofs.CodeLaws.{beyond-keys, no-first-digit}
 use Rattle.book.specs.Soundness.{soundEntries}
 use Rattle.book_words.specs.declared.Entry.{Entry}
 use Rattle.book.proofs.SoundLists.{Allowed, After, same, next, SoundFrom, Sound, to-sound, after-key}

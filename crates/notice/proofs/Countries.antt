@@ -14,7 +14,7 @@ use Rattle.varint.specs.declared.Number.the-variants.{Value, Refused}
 use Rattle.dial_code.specs.Digits.{every, isDigit, digits, value, isNumber}
 use Rattle.dial_code.specs.Key.{codeKey}
 use Rattle.country_code.specs.CountryCode.{countryDigits, country, countryOfKey}
-use Rattle.country_code.specs.Code.{isCode, isCodeKey}
+use Rattle.allowed_code.specs.Code.{isCode, isCodeKey}
 use Rattle.country_code.specs.declared.Country.{Country}
 use Rattle.country_code.specs.declared.Country.the-variants.{Code, None}
 use Rattle.dial_code.specs.declared.Keyed.the-variants as keyed

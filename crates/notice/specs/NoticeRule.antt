@@ -13,7 +13,7 @@ use Rattle.varint.specs.declared.Number.the-variants.{Value, Refused}
 use Rattle.dial_code.specs.Digits.{mostDigits, digits}
 use Rattle.dial_code.specs.Key.{key}
 use Rattle.country_code.specs.CountryCode.{countryDigits, country}
-use Rattle.country_code.specs.Code.{isCode}
+use Rattle.allowed_code.specs.Code.{isCode}
 use Rattle.calendar.specs.Time.{lastDay, lastReceivedDay}
 use Rattle.rate.specs.Price.{rate, priceOf}
 use Rattle.rate.specs.declared.Offer.the-variants.{Open}

@@ -18,7 +18,7 @@ fn country_field(count: u64, value: u64, end: usize) -> Number
     match dial_code::code_key(count, value) {
         Keyed::Refused(e) => Number::Refused(e),
         Keyed::Key(key) => {
-            if !country_code::is_code_key(key) {
+            if !allowed_code::is_code_key(key) {
                 return Number::Refused(refusal::CODE_NOT_ALLOWED);
             }
             if notice_line::lies_in(key, value) {

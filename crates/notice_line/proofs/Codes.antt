@@ -12,7 +12,7 @@ use Rattle.varint.specs.declared.Number.the-variants.{Value, Refused}
 use Rattle.dial_code.specs.Digits.{every, isDigit, digits, isWritten}
 use Rattle.dial_code.specs.Key.{key, digitsOfKey, codeKey}
 use Rattle.country_code.specs.CountryCode.{countryOfKey}
-use Rattle.country_code.specs.Code.{isCode, isCodeKey, sentCodeKey}
+use Rattle.allowed_code.specs.Code.{isCode, isCodeKey, sentCodeKey}
 use Rattle.dial_code.specs.declared.Keyed.the-variants as keyed
 use Rattle.dial_code.proofs.Tests.{and-left-true, below, equal, above, order}
 use Rattle.dial_code.proofs.DigitLaws.{length-digits, digits-are}
@@ -20,7 +20,7 @@ use Rattle.dial_code.proofs.KeyLaws.{digits-back}
 use Rattle.dial_code.proofs.CountedKeys.{large, sent}
 use Rattle.country_code.proofs.CountryLaws.{country-of-key}
 use Rattle.dial_code.proofs.SentNumbers.{code-test}
-use Rattle.country_code.proofs.SentCodes.{sent-test}
+use Rattle.allowed_code.proofs.SentCodes.{sent-test}
 use Rattle.notice_line.specs.LineRule.{isCountry, codeField}
 use Rattle.varint.proofs.Links.{yes-case, no-case}
 

@@ -15,10 +15,10 @@ use Rattle.varint.specs.declared.Number.the-variants.{Value, Refused}
 use Rattle.dial_code.specs.Digits.{digits}
 use Rattle.dial_code.specs.Key.{key}
 use Rattle.country_code.specs.CountryCode.{country, countryOfKey}
-use Rattle.country_code.specs.Code.{isCode, isCodeKey}
+use Rattle.allowed_code.specs.Code.{isCode, isCodeKey}
 use Rattle.country_code.specs.declared.Country.the-variants.{Code}
 use Rattle.dial_code.proofs.DigitLaws.{length-digits, digits-are}
-use Rattle.country_code.proofs.CodeLaws.{code-keyed}
+use Rattle.allowed_code.proofs.CodeLaws.{code-keyed}
 use Rattle.country_code.proofs.CountryLaws.{country-of-key}
 use Rattle.rate.specs.Price.{priceOf}
 use Rattle.rate.specs.OfferWord.{inRange}

@@ -54,7 +54,7 @@ fn code_field(named: u64, before: u64, count: u64, value: u64, next: usize) -> N
     requires { ⌜ (1 ≤ count) × (count ≤ 15) ⌝ }
     ensures { λ r. ⌜ r ≡ codeField named before count value next ⌝ }
 {
-    match country_code::sent_code_key(count, value) {
+    match allowed_code::sent_code_key(count, value) {
         Keyed::Refused(e) => Number::Refused(e),
         Keyed::Key(key) => {
             if key <= before {

@@ -11,13 +11,13 @@ use lib.Seq.{length-take-le}
 use Rattle.dial_code.specs.Digits.{digits, value, isNumber}
 use Rattle.dial_code.specs.Key.{digitsOfKey}
 use Rattle.country_code.specs.CountryCode.{oneDigit, twoDigits, countryDigits, countryOfKey}
-use Rattle.country_code.specs.Code.{isCode, isCodeKey}
+use Rattle.allowed_code.specs.Code.{isCode, isCodeKey}
 use Rattle.country_code.specs.declared.Country.the-variants.{Code}
 use Rattle.dial_code.proofs.Tests.{and-left-true}
 use Rattle.dial_code.proofs.DigitLaws.{value-below, digits-value, number-facts, number-cons, no-digits}
 use Rattle.country_code.proofs.CountryLaws.{of-digits}
-use Rattle.country_code.proofs.CodeLaws.{country-test}
-use Rattle.country_code.proofs.SentBack.{own-digits}
+use Rattle.allowed_code.proofs.CodeLaws.{country-test}
+use Rattle.allowed_code.proofs.SentBack.{own-digits}
 use Rattle.notice.specs.NoticeRule.{isCountryCode}
 use Rattle.notice_writing.specs.Layout.{countryCount}
 use Rattle.varint.proofs.Links.{yes-case}

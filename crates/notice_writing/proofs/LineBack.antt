@@ -15,11 +15,11 @@ use Rattle.varint.specs.declared.Number.the-variants.{Value}
 use Rattle.varint_writing.proofs.Several.{reads-first, bytes-nil, length-bytes-cons}
 use Rattle.country_code.specs.CountryCode.{countryOfKey}
 use Rattle.dial_code.specs.Key.{codeOf}
-use Rattle.country_code.specs.Code.{isCodeKey}
+use Rattle.allowed_code.specs.Code.{isCodeKey}
 use Rattle.country_code.specs.declared.Country.{Country}
 use Rattle.country_code.specs.declared.Country.the-variants.{Code}
 use Rattle.dial_code.proofs.Tests.{and-left-true}
-use Rattle.country_code.proofs.SentBack.{key-sends}
+use Rattle.allowed_code.proofs.SentBack.{key-sends}
 use Rattle.rate.specs.Price.{scaled, priceOf, rate}
 use Rattle.rate.specs.OfferWord.{inRange}
 use Rattle.rate.specs.declared.Rate.{Rate}

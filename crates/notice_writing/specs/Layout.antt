@@ -11,7 +11,7 @@ use Rattle.dial_code.specs.Digits.{digits}
 use Rattle.dial_code.specs.Key.{key}
 use Rattle.country_code.specs.CountryCode.{country}
 use Rattle.dial_code.specs.Key.{codeOf}
-use Rattle.country_code.specs.Code.{isCode}
+use Rattle.allowed_code.specs.Code.{isCode}
 use Rattle.rate.specs.Price.{rate, priceOf}
 use Rattle.rate.specs.declared.Offer.{Offer}
 use Rattle.rate.specs.declared.Offer.the-variants.{Closed, Blocked, Open}

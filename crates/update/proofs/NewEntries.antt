@@ -7,8 +7,8 @@ use Prim.Native.Nat.{ℕ, _≤_, _<_, max}
 use native.Mathlib.Omega.{arith}
 use lib.Dec.{eqb, leb}
 use Rattle.dial_code.specs.Key.{key, digitsOfKey, keysEnd}
-use Rattle.country_code.specs.Code.{isCodeKey}
-use Rattle.country_code.proofs.CodeLaws.{beyond-keys, keyed-code, code-back}
+use Rattle.allowed_code.specs.Code.{isCodeKey}
+use Rattle.allowed_code.proofs.CodeLaws.{beyond-keys, keyed-code, code-back}
 use Rattle.dial_code.proofs.Tests.{Order, below, equal, above, order}
 use Rattle.calendar.specs.Time.{lastDay}
 use Rattle.rate.specs.OfferWord.{wordOf}

@@ -10,7 +10,7 @@ use Rattle.varint.specs.Reading.{readNumber}
 use Rattle.dial_code.specs.Digits.{digits}
 use Rattle.dial_code.specs.Key.{key, digitsOfKey}
 use Rattle.country_code.specs.CountryCode.{country, countryOfKey}
-use Rattle.country_code.specs.Code.{isCode, isCodeKey}
+use Rattle.allowed_code.specs.Code.{isCode, isCodeKey}
 use Rattle.rate.specs.Price.{rate, priceOf}
 use Rattle.rate.specs.OfferWord.{wordOf, offerOf}
 use Rattle.rate.specs.declared.Offer.{Offer}

@@ -9,7 +9,7 @@ use Rattle.varint.specs.declared.Number.the-variants.{Value, Refused}
 use Rattle.dial_code.specs.Digits.{digits}
 use Rattle.dial_code.specs.Key.{key, digitsOfKey}
 use Rattle.country_code.specs.CountryCode.{country, countryOfKey}
-use Rattle.country_code.specs.Code.{isCode}
+use Rattle.allowed_code.specs.Code.{isCode}
 use Rattle.rate.specs.Price.{rate, priceOf}
 use Rattle.rate.specs.OfferWord.{wordOf}
 use Rattle.charging.specs.Charging.{chargeOf}

@@ -4,7 +4,7 @@ use mathlib.Core.Path.{sym, _∙_}
 use native.Mathlib.Omega.{arith}
 use borrow.Author.Needs.{needs}
 use borrow.Author.Tests.{not-true, not-false}
-use Rattle.country_code.proofs.CodeLaws.{after-code}
+use Rattle.allowed_code.proofs.CodeLaws.{after-code}
 use Rattle.book.proofs.Rules.{not-open, by-key, not-later, repeated, changed, smaller-key, larger-key}
 use Rattle.book.proofs.can_follow.Statement.{statement}
 use Rattle.book.proofs.can_follow.Tie as tie

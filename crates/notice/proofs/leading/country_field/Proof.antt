@@ -8,7 +8,7 @@ use Rattle.varint.specs.declared.Number.the-variants.{Value, Refused}
 use Rattle.notice_line.specs.LineRule.{isCountry}
 use Rattle.notice.specs.NoticeRule.{countryField}
 use Rattle.country_code.specs.CountryCode.{countryOfKey}
-use Rattle.country_code.specs.Code.{isCodeKey}
+use Rattle.allowed_code.specs.Code.{isCodeKey}
 use Rattle.notice.proofs.Countries.{country-tests, country-refused}
 use Rattle.notice.proofs.leading.country_field.Statement.{statement}
 use Rattle.notice.proofs.leading.country_field.Tie as tie

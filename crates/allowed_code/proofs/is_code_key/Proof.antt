@@ -2,9 +2,9 @@
 -- gap. Assumes nothing.
 use mathlib.Core.Path.{sym, _∙_}
 use borrow.Author.Needs.{needs}
-use Rattle.country_code.proofs.CodeLaws.{beyond-keys, no-first-digit, with-country, without-country}
-use Rattle.country_code.proofs.is_code_key.Statement.{statement}
-use Rattle.country_code.proofs.is_code_key.Tie as tie
+use Rattle.allowed_code.proofs.CodeLaws.{beyond-keys, no-first-digit, with-country, without-country}
+use Rattle.allowed_code.proofs.is_code_key.Statement.{statement}
+use Rattle.allowed_code.proofs.is_code_key.Tie as tie
 
 returns : tie.Need-returns
 returns c = sym (beyond-keys _ (c .if1 .taken))

@@ -16,8 +16,8 @@ use Rattle.dial_code.proofs.Tests.{both}
 use Rattle.dial_code.proofs.DigitLaws.{value-below, digits-value, no-digits, number-facts}
 use Rattle.dial_code.proofs.CountedKeys.{sent}
 use Rattle.dial_code.proofs.KeyCode.{code-opens}
-use Rattle.country_code.specs.Code.{isCode, isCodeKey}
-use Rattle.country_code.proofs.CodeLaws.{code-test, country-test}
+use Rattle.allowed_code.specs.Code.{isCode, isCodeKey}
+use Rattle.allowed_code.proofs.CodeLaws.{code-test, country-test}
 
 number-some : (ds : List ℕ) → isNumber ds ≡ true → 0 < length ds
 number-some [] e = absurd (false≢true (sym no-digits ∙ e))

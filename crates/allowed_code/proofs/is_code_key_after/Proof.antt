@@ -1,9 +1,9 @@
 -- is_code_key_after meets its contract. Assumes nothing.
 use mathlib.Core.Path.{sym, _∙_}
 use borrow.Author.Needs.{needs}
-use Rattle.country_code.proofs.CodeLaws.{like-places, other-places}
-use Rattle.country_code.proofs.is_code_key_after.Statement.{statement}
-use Rattle.country_code.proofs.is_code_key_after.Tie as tie
+use Rattle.allowed_code.proofs.CodeLaws.{like-places, other-places}
+use Rattle.allowed_code.proofs.is_code_key_after.Statement.{statement}
+use Rattle.allowed_code.proofs.is_code_key_after.Tie as tie
 
 is-gapless-requires : tie.Need-is-gapless-requires
 is-gapless-requires c κs = search needs

@@ -10,17 +10,17 @@ use lib.Dec.{eqb, leb}
 use lib.ListN.{length, take}
 use Rattle.dial_code.specs.Digits.{isNumber, value}
 use Rattle.dial_code.specs.Key.{key, keysEnd, firstPlace, thirdPlace, placesOf, digitsOfKey, isGapless}
 use Rattle.country_code.specs.CountryCode.{countryDigits, country, countryOfKey}
 use Rattle.country_code.specs.Stretches.{samePlaces}
-use Rattle.country_code.specs.Code.{isCode, isCodeKey, isCodeKeyAfter}
+use Rattle.allowed_code.specs.Code.{isCode, isCodeKey, isCodeKeyAfter}
 use Rattle.country_code.specs.declared.Country.{Country}
 use Rattle.country_code.specs.declared.Country.the-variants.{Code, None}
 use Rattle.dial_code.proofs.Tests.{both, below, equal, above, order}
 use Rattle.dial_code.proofs.Tests.{and-left-true, and-left-false, and-right-true, and-right-false}
 use Rattle.dial_code.proofs.DigitLaws.{no-digits, zero-first, number-cons, number-facts}
 use Rattle.dial_code.proofs.KeyLaws.{digits-back}
 use Rattle.dial_code.proofs.Places.{places-none, places-some, beyond, all-places, length-places, digits-places}
 use Rattle.country_code.proofs.CountryLaws.{of-digits, same-country}
 
 -- whether there is a country
 abbrev pub isSome : Country → Bool

@@ -9,16 +9,16 @@ use lib.ListN.{length}
 use Rattle.refusal.specs.Refusal.{outOfRange, codeNotAllowed}
 use Rattle.dial_code.specs.Digits.{digits, isWritten, isNumber}
 use Rattle.dial_code.specs.Key.{key, firstPlace, codeKey}
 use Rattle.country_code.specs.CountryCode.{countryDigits, countryOfKey}
-use Rattle.country_code.specs.Code.{isCode, sentCodeKey}
+use Rattle.allowed_code.specs.Code.{isCode, sentCodeKey}
 use Rattle.country_code.specs.declared.Country.{Country}
 use Rattle.country_code.specs.declared.Country.the-variants.{Code, None}
 use Rattle.dial_code.specs.declared.Keyed.the-variants.{Key, Refused}
 use Rattle.dial_code.proofs.Tests.{and-left-true, and-left-false, and-right-false}
 use Rattle.dial_code.proofs.DigitLaws.{length-digits, digits-are}
-use Rattle.country_code.proofs.CodeLaws.{isSome, has-country, country-test}
+use Rattle.allowed_code.proofs.CodeLaws.{isSome, has-country, country-test}
 use Rattle.dial_code.proofs.SentNumbers.{code-test, few, told, numbered}
 use Rattle.country_code.proofs.CountryLaws.{country-of-key}
 
 module _ (count v : ℕ) where
   -- the rule's tests

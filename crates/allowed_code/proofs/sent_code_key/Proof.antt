@@ -4,9 +4,9 @@ use mathlib.Core.Path.{_≡_, sym, _∙_}
 use borrow.Author.Needs.{needs}
 use Rattle.dial_code.specs.Key.{codeKey}
 use Rattle.dial_code.specs.declared.Keyed.the-variants.{Key}
-use Rattle.country_code.proofs.SentCodes.{unwritten, first-zero, no-country, some-country}
-use Rattle.country_code.proofs.sent_code_key.Statement.{statement}
-use Rattle.country_code.proofs.sent_code_key.Tie as tie
+use Rattle.allowed_code.proofs.SentCodes.{unwritten, first-zero, no-country, some-country}
+use Rattle.allowed_code.proofs.sent_code_key.Statement.{statement}
+use Rattle.allowed_code.proofs.sent_code_key.Tie as tie
 
 -- the key of the code
 keyed : (c : tie.After-key) →

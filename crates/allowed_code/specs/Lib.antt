@@ -1,0 +1,2 @@
+-- The rules of allowed codes.
+pub mod Code
