@@ -17,7 +17,7 @@ use Rattle.dial_code.specs.declared.Keyed.the-variants.{Key, Refused}
 use Rattle.dial_code.proofs.Tests.{and-left-true, and-left-false, and-right-false}
 use Rattle.dial_code.proofs.DigitLaws.{length-digits, digits-are}
 use Rattle.allowed_code.proofs.CodeLaws.{isSome, has-country, country-test}
-use Rattle.dial_code.proofs.SentNumbers.{code-test, few, told, numbered}
+use Rattle.dial_code.proofs.SentKeys.{code-test, few, told, numbered}
 use Rattle.country_code.proofs.CountryLaws.{country-of-key}
 
 module _ (count v : ℕ) where

@@ -5,6 +5,5 @@ pub mod KeyLaws
 pub mod Places
 pub mod Gapless
 pub mod KeyCode
-pub mod SentNumbers
-pub mod Spelling
+pub mod SentKeys
 pub mod CountedKeys

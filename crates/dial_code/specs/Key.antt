@@ -1,12 +1,12 @@
 -- Keys (document 01, "Codes and countries").
 use mathlib.Core.Path.{_≡_, refl}
-use mathlib.Core.Bool.{Bool, true, false, cond, _&&_}
-use mathlib.Core.List.{List, [], _∷_, map}
+use mathlib.Core.Bool.{Bool, true, false, cond}
+use mathlib.Core.List.{List, [], _∷_}
 use Prim.Native.Nat.{ℕ, zero, suc, _+_, _-_, _*_, _/_, _%_, _^_}
 use lib.Dec.{eqb, ltb}
 use lib.ListN.{length}
-use Rattle.refusal.specs.Refusal.{outOfRange, notANumber}
-use Rattle.dial_code.specs.Digits.{mostDigits, digits, value, isWritten, isNumber, digitOf, isDialled}
+use Rattle.refusal.specs.Refusal.{outOfRange}
+use Rattle.dial_code.specs.Digits.{mostDigits, digits, value, isWritten}
 use Rattle.dial_code.specs.declared.Code.{Code}
 use Rattle.dial_code.specs.declared.Keyed.{Keyed}
 use Rattle.dial_code.specs.declared.Keyed.the-variants.{Key, Refused}
@@ -57,17 +57,6 @@ codeOf w = record { count = length (digitsOfKey w); value = value (digitsOfKey w
 unfoldable pub codeKey : ℕ → ℕ → Keyed
 unfolding key digits isWritten
 codeKey count v = cond (isWritten count v) (Key (key (digits count v))) (Refused outOfRange)
-
--- The key of a number given as ASCII digits, or that it is none.
-unfoldable pub numberKey : List ℕ → Keyed
-unfolding key isDialled
-numberKey s = cond (isDialled s) (Key (key (map digitOf s))) (Refused notANumber)
-
--- The key of a number sent as a count of digits and a value, or that it is none.
-unfoldable pub sentNumberKey : ℕ → ℕ → Keyed
-unfolding key digits isWritten isNumber
-sentNumberKey count v =
-    cond (isWritten count v && isNumber (digits count v)) (Key (key (digits count v))) (Refused notANumber)
 
 -- The key of a key's first n digits: the key less its remainder by 11^(15 − n).
 unfoldable pub prefixKey : ℕ → ℕ → ℕ
@@ -132,40 +121,6 @@ code-keys :
     ≡ Key 759499667166482 ∷ Refused 4 ∷ Refused 4 ∷ Refused 4 ∷ Key (key (0 ∷ 1 ∷ [])) ∷ []
 unfolding codeKey
 code-keys = refl
-
--- "1", nothing, "01", "1/", "1:", sixteen ones
-number-keys :
-    numberKey (49 ∷ [])
-    ∷ numberKey []
-    ∷ numberKey (48 ∷ 49 ∷ [])
-    ∷ numberKey (49 ∷ 47 ∷ [])
-    ∷ numberKey (49 ∷ 58 ∷ [])
-    ∷ numberKey (49 ∷ 49 ∷ 49 ∷ 49 ∷ 49 ∷ 49 ∷ 49 ∷ 49 ∷ 49 ∷ 49 ∷ 49 ∷ 49 ∷ 49 ∷ 49 ∷ 49 ∷ 49 ∷ [])
-    ∷ []
-    ≡ Key 759499667166482 ∷ Refused 40 ∷ Refused 40 ∷ Refused 40 ∷ Refused 40 ∷ Refused 40 ∷ []
-unfolding numberKey
-number-keys = refl
-
--- 1, 0, 01, counts of 0 and 16, a value too large for its count, fifteen digits
-sent-keys :
-    sentNumberKey 1 1
-    ∷ sentNumberKey 1 0
-    ∷ sentNumberKey 2 1
-    ∷ sentNumberKey 0 0
-    ∷ sentNumberKey 16 1000000000000000
-    ∷ sentNumberKey 1 10
-    ∷ sentNumberKey 15 100000000000000
-    ∷ []
-    ≡ Key 759499667166482
-    ∷ Refused 40
-    ∷ Refused 40
-    ∷ Refused 40
-    ∷ Refused 40
-    ∷ Refused 40
-    ∷ Key (key (1 ∷ 0 ∷ 0 ∷ 0 ∷ 0 ∷ 0 ∷ 0 ∷ 0 ∷ 0 ∷ 0 ∷ 0 ∷ 0 ∷ 0 ∷ 0 ∷ 0 ∷ []))
-    ∷ []
-unfolding sentNumberKey
-sent-keys = refl
 
 -- the first two digits of 234, all three, none
 prefixes :

@@ -1,8 +1,8 @@
 // Digit strings and their keys (document 01, "Codes and countries").
 ghost use mathlib.Core.Path.{_≡_};
-ghost use Prim.Native.Nat.{_-_, _≤_, _<_, _^_};
+ghost use Prim.Native.Nat.{_-_, _≤_, _^_};
 ghost use Rattle.dial_code.specs.Digits.{mostDigits};
-ghost use Rattle.dial_code.specs.Key.{codeKey, numberKey, sentNumberKey, codeOf, isGapless};
+ghost use Rattle.dial_code.specs.Key.{codeKey, codeOf, isGapless};
 
 // At most so many digits.
 pub const MOST_DIGITS: u64 = 15;
@@ -27,12 +27,6 @@ pub enum Keyed {
 pub struct Code {
     pub count: u64,
     pub value: u64,
-}
-
-fn wide(x: u8) -> u64
-    ensures { λ r. ⌜ (r ≡ x) × (r < 256) ⌝ }
-{
-    x as u64
 }
 
 // The weight of a place, 11 to the power 15 - place.
@@ -85,54 +79,6 @@ pub fn code_key(count: u64, value: u64) -> Keyed
         return Keyed::Refused(refusal::OUT_OF_RANGE);
     }
     Keyed::Key(key)
-}
-
-// The key of a number given as ASCII digits, one a byte; refusal 40 where it is empty, over 15 digits, with a non-digit or
-// starting with 0.
-pub fn number_key(number: &[u8]) -> Keyed
-    ensures { λ r. ⌜ r ≡ numberKey (now (number .entry)) ⌝ }
-{
-    if number.len() == 0 {
-        return Keyed::Refused(refusal::NOT_A_NUMBER);
-    }
-    if 15 < number.len() {
-        return Keyed::Refused(refusal::NOT_A_NUMBER);
-    }
-    if number[0] == b'0' {
-        return Keyed::Refused(refusal::NOT_A_NUMBER);
-    }
-    let mut weight = FIRST_PLACE;
-    let mut key: u64 = 0;
-    let mut i: usize = 0;
-    while i < number.len() {
-        let b = wide(number[i]);
-        if b < 48 {
-            return Keyed::Refused(refusal::NOT_A_NUMBER);
-        }
-        if 57 < b {
-            return Keyed::Refused(refusal::NOT_A_NUMBER);
-        }
-        key += (b - 47) * weight;
-        weight /= 11;
-        i += 1;
-    }
-    Keyed::Key(key)
-}
-
-// The key of a number sent as a count of digits and a value; refusal 40 where one is outside its range or the first digit is 0.
-pub fn sent_number_key(count: u64, value: u64) -> Keyed
-    ensures { λ r. ⌜ r ≡ sentNumberKey count value ⌝ }
-{
-    match code_key(count, value) {
-        Keyed::Refused(_) => Keyed::Refused(refusal::NOT_A_NUMBER),
-        Keyed::Key(key) => {
-            // The first place holds the digit 0.
-            if key < 2 * FIRST_PLACE {
-                return Keyed::Refused(refusal::NOT_A_NUMBER);
-            }
-            Keyed::Key(key)
-        }
-    }
 }
 
 // The count of digits and the value of the code that a word is the key of.

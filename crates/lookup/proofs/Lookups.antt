@@ -8,7 +8,8 @@ use borrow.Author.Tests.{eq-eqb, ne-eqb}
 use lib.Dec.{eqb}
 use Rattle.refusal.specs.Refusal.{notANumber, timeOutOfRange}
 use Rattle.dial_code.specs.Digits.{digitOf, isDialled}
-use Rattle.dial_code.specs.Key.{key, digitsOfKey, numberKey}
+use Rattle.dial_code.specs.Key.{key, digitsOfKey}
+use Rattle.dialled_number.specs.NumberKey.{numberKey}
 use Rattle.dial_code.specs.declared.Keyed.the-variants.{Key, Refused as NoKey}
 use Rattle.dial_code.proofs.DigitLaws.{dialled-digits}
 use Rattle.dial_code.proofs.KeyLaws.{digits-back}

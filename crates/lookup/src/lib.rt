@@ -183,7 +183,7 @@ pub fn look_up(words: &[u64], number: &[u8], day: Day) -> Lookup
     if e != 0 {
         return Lookup::Refused(e);
     }
-    match dial_code::number_key(number) {
+    match dialled_number::number_key(number) {
         Keyed::Refused(e) => Lookup::Refused(e),
         Keyed::Key(key) => {
             if !day.in_range() {

@@ -19,7 +19,7 @@ use Rattle.dial_code.proofs.DigitLaws.{length-digits, digits-are}
 use Rattle.dial_code.proofs.KeyLaws.{digits-back}
 use Rattle.dial_code.proofs.CountedKeys.{large, sent}
 use Rattle.country_code.proofs.CountryLaws.{country-of-key}
-use Rattle.dial_code.proofs.SentNumbers.{code-test}
+use Rattle.dial_code.proofs.SentKeys.{code-test}
 use Rattle.allowed_code.proofs.SentCodes.{sent-test}
 use Rattle.notice_line.specs.LineRule.{isCountry, codeField}
 use Rattle.varint.proofs.Links.{yes-case, no-case}

@@ -7,12 +7,12 @@ use borrow.Author.Needs.{needs}
 use borrow.Author.Tests.{lt-leb}
 use lib.ListN.{length}
 use lib.Dec.{leb}
-use Rattle.dial_code.specs.Key.{numberKey}
+use Rattle.dialled_number.specs.NumberKey.{numberKey}
 use Rattle.dial_code.proofs.Tests.{and-left-false, and-right-false}
-use Rattle.dial_code.proofs.Spelling.{spelledFrom, empty, too-long, leading-zero, starts}
-use Rattle.dial_code.proofs.Spelling.{turn, not-ascii, ends, next-weight, weighs}
-use Rattle.dial_code.proofs.number_key.Statement.{statement}
-use Rattle.dial_code.proofs.number_key.Tie as tie
+use Rattle.dialled_number.proofs.Spelling.{spelledFrom, empty, too-long, leading-zero, starts}
+use Rattle.dialled_number.proofs.Spelling.{turn, not-ascii, ends, next-weight, weighs}
+use Rattle.dialled_number.proofs.number_key.Statement.{statement}
+use Rattle.dialled_number.proofs.number_key.Tie as tie
 
 abbrev Inv-loop : tie.InvT-loop
 Inv-loop number weight₀ key₀ i₀ weight key i =

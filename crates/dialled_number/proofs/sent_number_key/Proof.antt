@@ -1,9 +1,9 @@
 -- sent_number_key meets its contract: a code's key, where it shows that the first digit is not 0. Assumes nothing.
 use mathlib.Core.Path.{sym, _∙_}
 use borrow.Author.Needs.{needs}
-use Rattle.dial_code.proofs.SentNumbers.{no-code, first-zero, first-other}
-use Rattle.dial_code.proofs.sent_number_key.Statement.{statement}
-use Rattle.dial_code.proofs.sent_number_key.Tie as tie
+use Rattle.dialled_number.proofs.SentNumbers.{no-code, first-zero, first-other}
+use Rattle.dialled_number.proofs.sent_number_key.Statement.{statement}
+use Rattle.dialled_number.proofs.sent_number_key.Tie as tie
 
 code-key-requires : tie.Need-code-key-requires
 code-key-requires c κs = search needs

@@ -12,12 +12,13 @@ use lib.Dec.{leb, lit<}
 use lib.ListN.{length, getD, drop, length-map, drop-of-length-le}
 use lib.Seq.{drop-cons}
 use Rattle.refusal.specs.Refusal.{notANumber}
 use Rattle.dial_code.specs.Digits.{every, isDigit, isAscii, digitOf, isNumber}
-use Rattle.dial_code.specs.Key.{keyFrom, numberKey}
+use Rattle.dial_code.specs.Key.{keyFrom}
+use Rattle.dialled_number.specs.NumberKey.{numberKey}
 use Rattle.dial_code.specs.declared.Keyed.{Keyed}
 use Rattle.dial_code.specs.declared.Keyed.the-variants.{Key, Refused}
 use Rattle.dial_code.proofs.DigitLaws.{zero-first, number-cons}
 use Rattle.dial_code.proofs.Tests.{both, and-right-false}
 
 -- The rule from the i-th byte on, with what the bytes before it weigh.
 unfoldable pub spelledFrom : ℕ → ℕ → List ℕ → Keyed

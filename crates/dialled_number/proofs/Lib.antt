@@ -1,0 +1,3 @@
+-- The laws of numbers' keys.
+pub mod Spelling
+pub mod SentNumbers

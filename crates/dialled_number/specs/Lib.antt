@@ -1,0 +1,2 @@
+-- The rules of numbers' keys.
+pub mod NumberKey
