@@ -1,4 +1,4 @@
--- The laws of varint and varint_writing, stated again in full: numbers in groups of seven bits (document 01, "Notice layout"). Assumes nothing.
+-- The laws of varint, varint_encoding and varint_writing, stated again in full: numbers in groups of seven bits (document 01, "Notice layout"). Assumes nothing.
 use mathlib.Core.Path.{_≡_}
 use mathlib.Core.Bool.{true}
 use mathlib.Core.Logic.{_⊎_, _↔_}
@@ -8,18 +8,19 @@ use lib.ListN.{length, getD, take, drop}
 use Rattle.refusal.specs.Refusal.{bytesEnd, notShortest}
 use Rattle.varint.specs.declared.Number.the-variants.{Value, Refused}
 use Rattle.varint.specs.Reading.{from, readNumber}
-use Rattle.varint_writing.specs.Writing.{encode}
-use Rattle.varint_writing.specs.Several.{encodeAll, encodableAll, leavesAll}
+use Rattle.varint_encoding.specs.Encoding.{encode}
+use Rattle.varint_encoding.specs.Several.{encodeAll, encodableAll}
+use Rattle.varint_writing.specs.Writing.{leavesAll}
 use Rattle.varint.proofs.Laws as laws
-use Rattle.varint_writing.proofs.Laws as written
-use Rattle.varint_writing.proofs.Several as several
+use Rattle.varint_encoding.proofs.Laws as encoded
+use Rattle.varint_writing.proofs.Writes as written
 
 -- Reading and writing are inverse.
 
 -- A number's bytes read as the number, wherever they stand.
 pub reads-back : (pre post : List ℕ) (n : ℕ) → n < 2 ^ 63
     → readNumber (pre ++ encode n ++ post) (length pre) ≡ Value n (length pre + length (encode n))
-reads-back = written.reads-back
+reads-back = encoded.reads-back
 
 -- Each number that write_numbers writes reads as itself, at the place after those before it.
 pub written-reads-back : (s : List ℕ) (at : ℕ) (ms : List ℕ) (n : ℕ) (ns : List ℕ)
@@ -27,16 +28,16 @@ pub written-reads-back : (s : List ℕ) (at : ℕ) (ms : List ℕ) (n : ℕ) (ns
     → at + length (encodeAll (ms ++ (n ∷ ns))) ≤ length s
     → readNumber (leavesAll s at (ms ++ (n ∷ ns))) (at + length (encodeAll ms))
     ≡ Value n (at + length (encodeAll ms) + length (encode n))
-written-reads-back = several.written-reads-back
+written-reads-back = written.written-reads-back
 
 -- A number that is read stands there in its one encoding.
 pub only-encoding : (s : List ℕ) (at n end : ℕ) → ((i : ℕ) → getD s i 0 < 256) → readNumber s at ≡ Value n end
     → (s ≡ take at s ++ encode n ++ drop end s) × (end ≡ at + length (encode n))
-only-encoding = written.only-encoding
+only-encoding = encoded.only-encoding
 
 -- Two numbers have two encodings.
 pub injective : (m n : ℕ) → m < 2 ^ 63 → n < 2 ^ 63 → encode m ≡ encode n → m ≡ n
-injective = written.injective
+injective = encoded.injective
 
 -- Bounds.
 
@@ -50,11 +51,11 @@ below = laws.below
 
 -- An encoding has one to nine bytes.
 pub size : (n : ℕ) → (1 ≤ length (encode n)) × (length (encode n) ≤ 9)
-size = written.size
+size = encoded.size
 
 -- Each of them is a byte.
 pub bytes : (n i : ℕ) → getD (encode n) i 0 < 256
-bytes = written.bytes
+bytes = encoded.bytes
 
 -- Refusals.
 

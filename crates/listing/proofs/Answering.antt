@@ -9,7 +9,8 @@ use lib.Dec.{eqb, leb}
 use lib.ListN.{length, length-append}
 use lib.Seq.{sets, sets-eq, length-sets}
 use Rattle.refusal.specs.Refusal.{bufferTooShort, timeOutOfRange, noOffer}
-use Rattle.varint_writing.specs.Several.{sizeOfAll, answerAll, leavesAll}
+use Rattle.varint_encoding.specs.Several.{sizeOfAll}
+use Rattle.varint_writing.specs.Writing.{answerAll, leavesAll}
 use Rattle.varint_writing.specs.declared.Written.{Written}
 use Rattle.varint_writing.specs.declared.Written.the-variants.{UpTo}
 use Rattle.varint.proofs.Slices.{sets-append}

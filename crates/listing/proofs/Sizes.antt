@@ -6,9 +6,9 @@ use mathlib.Core.List.{List, [], _∷_, _++_, append-nil}
 use Prim.Native.Nat.{ℕ, _+_, _*_, _^_, _≤_, _<_}
 use native.Mathlib.Omega.{arith}
 use lib.ListN.{length, length-append}
-use Rattle.varint_writing.specs.Several.{encodeAll, encodableAll, sizeOfAll}
-use Rattle.varint_writing.proofs.Laws.{size-below}
-use Rattle.varint_writing.proofs.Several.{all-nil, all-sized, bytes-nil, length-bytes-cons}
+use Rattle.varint_encoding.specs.Several.{encodeAll, encodableAll, sizeOfAll}
+use Rattle.varint_encoding.proofs.Laws.{size-below}
+use Rattle.varint_encoding.proofs.Several.{all-nil, all-sized, bytes-nil, length-bytes-cons}
 use Rattle.dial_code.specs.Key.{codeOf}
 use Rattle.rate.specs.OfferWord.{offerOf, inRange}
 use Rattle.rate.specs.declared.Offer.{Offer}

@@ -9,10 +9,11 @@ use borrow.Author.Tests.{le-leb, lt-leb, leb-true, leb-false, lt-ltb, le-ltb, eq
 use lib.Dec.{leb, ltb}
 use lib.ListN.{length, length-append}
 use lib.Seq.{sets, sets-eq, length-sets}
-use Rattle.varint_writing.specs.Several.{encodeAll, encodableAll, sizeOfAll, answerAll, leavesAll}
+use Rattle.varint_encoding.specs.Several.{encodeAll, encodableAll, sizeOfAll}
+use Rattle.varint_writing.specs.Writing.{answerAll, leavesAll}
 use Rattle.varint_writing.specs.declared.Written.{Written}
 use Rattle.varint_writing.specs.declared.Written.the-variants.{UpTo, NoRoom, TooLarge}
-use Rattle.varint_writing.proofs.Several.{writes}
+use Rattle.varint_writing.proofs.Writes.{writes}
 use Rattle.varint.proofs.Slices.{sets-append}
 use Rattle.dial_code.proofs.Tests.{and-left-true, and-left-false, and-right-false}
 use Rattle.rate.specs.OfferWord.{offerOf}

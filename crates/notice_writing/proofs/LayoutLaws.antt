@@ -4,7 +4,7 @@ use mathlib.Core.List.{List, [], _∷_, _++_, append-assoc}
 use Prim.Native.Nat.{ℕ}
 use borrow.Author.Tests.{eq-eqb, ne-eqb}
 use lib.ListN.{length}
-use Rattle.varint_writing.specs.Several.{encodeAll}
+use Rattle.varint_encoding.specs.Several.{encodeAll}
 use Rattle.dial_code.specs.Key.{codeOf}
 use Rattle.dial_code.specs.declared.Code.{Code}
 use Rattle.rate.specs.declared.Offer.{Offer}

@@ -9,10 +9,10 @@ use borrow.Author.Tests.{lt-ltb, le-leb, eq-eqb}
 use lib.Dec.{eqb}
 use lib.ListN.{length, drop}
 use Rattle.varint.specs.Reading.{readNumber}
-use Rattle.varint_writing.specs.Several.{encodeAll}
-use Rattle.varint_writing.specs.Writing.{encode}
+use Rattle.varint_encoding.specs.Several.{encodeAll}
+use Rattle.varint_encoding.specs.Encoding.{encode}
 use Rattle.varint.specs.declared.Number.the-variants.{Value}
-use Rattle.varint_writing.proofs.Several.{reads-first, bytes-nil, length-bytes-cons}
+use Rattle.varint_encoding.proofs.Several.{reads-first, bytes-nil, length-bytes-cons}
 use Rattle.country_code.specs.CountryCode.{countryOfKey}
 use Rattle.dial_code.specs.Key.{codeOf}
 use Rattle.allowed_code.specs.Code.{isCodeKey}

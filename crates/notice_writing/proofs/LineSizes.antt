@@ -6,10 +6,10 @@ use mathlib.Core.List.{List, [], _∷_, _++_}
 use Prim.Native.Nat.{ℕ, _+_, _^_, _<_}
 use native.Mathlib.Omega.{arith}
 use lib.ListN.{length}
-use Rattle.varint_writing.specs.Writing.{sizeOf}
-use Rattle.varint_writing.specs.Several.{encodableAll, encodeAll, sizeOfAll}
-use Rattle.varint_writing.proofs.Several.{no-size, some-size}
-use Rattle.varint_writing.proofs.Several.{all-nil, all-sized, none-all, last-large, sized, one-byte, bytes-nil, length-bytes-cons}
+use Rattle.varint_encoding.specs.Encoding.{sizeOf}
+use Rattle.varint_encoding.specs.Several.{encodableAll, encodeAll, sizeOfAll}
+use Rattle.varint_encoding.proofs.Several.{no-size, some-size}
+use Rattle.varint_encoding.proofs.Several.{all-nil, all-sized, none-all, last-large, sized, one-byte, bytes-nil, length-bytes-cons}
 use Rattle.dial_code.specs.Key.{codeOf}
 use Rattle.notice_writing.specs.Layout.{offerFields, lineFields}
 use Rattle.notice_line.specs.declared.Line.{Line}

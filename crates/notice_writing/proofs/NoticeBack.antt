@@ -10,10 +10,10 @@ use borrow.Author.Tests.{lt-ltb, le-leb, eq-eqb, eqb-true, eqb-false}
 use lib.Dec.{eqb, ltb, lit<}
 use lib.ListN.{length, drop}
 use lib.Seq.{drop-append-seam}
-use Rattle.varint_writing.specs.Several.{encodeAll}
-use Rattle.varint_writing.specs.Writing.{encode}
+use Rattle.varint_encoding.specs.Several.{encodeAll}
+use Rattle.varint_encoding.specs.Encoding.{encode}
 use Rattle.varint.specs.declared.Number.the-variants.{Value}
-use Rattle.varint_writing.proofs.Several.{bytes-nil}
+use Rattle.varint_encoding.proofs.Several.{bytes-nil}
 use Rattle.dial_code.proofs.Tests.{and-left-true}
 use Rattle.notice.specs.NoticeRule.{readCountry, readNamed, headerOf, readDated, readHeader}
 use Rattle.notice.specs.NoticeRule.{Lines, lines, withLine, withFirst, readLines}

@@ -9,8 +9,8 @@ use native.Mathlib.Omega.{arith}
 use borrow.Author.Tests.{eqb-true}
 use lib.Dec.{eqb, lit<}
 use lib.ListN.{length}
-use Rattle.varint_writing.specs.Several.{encodableAll, sizeOfAll}
-use Rattle.varint_writing.proofs.Several.{all-nil, all-cons, all-sized}
+use Rattle.varint_encoding.specs.Several.{encodableAll, sizeOfAll}
+use Rattle.varint_encoding.proofs.Several.{all-nil, all-cons, all-sized}
 use Rattle.dial_code.specs.Key.{keysEnd, placesOf}
 use Rattle.dial_code.specs.Key.{codeOf}
 use Rattle.dial_code.proofs.Tests.{below, equal, above, order}

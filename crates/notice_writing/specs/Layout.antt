@@ -6,7 +6,7 @@ use Prim.Native.Nat.{ℕ}
 use lib.Dec.{eqb, ltb}
 use lib.ListN.{length}
 use Rattle.varint.specs.Reading.{readNumber}
-use Rattle.varint_writing.specs.Several.{encodeAll}
+use Rattle.varint_encoding.specs.Several.{encodeAll}
 use Rattle.dial_code.specs.Digits.{digits}
 use Rattle.dial_code.specs.Key.{key}
 use Rattle.country_code.specs.CountryCode.{country}

@@ -2,7 +2,8 @@
 ghost use mathlib.Core.Path.{_≡_};
 ghost use Prim.Native.Nat.{_≤_};
 ghost use lib.ListN.{length, take};
-ghost use Rattle.varint_writing.specs.Several.{sizeOfAll, answerAll, leavesAll};
+ghost use Rattle.varint_encoding.specs.Several.{sizeOfAll};
+ghost use Rattle.varint_writing.specs.Writing.{answerAll, leavesAll};
 ghost use Rattle.notice_writing.specs.Layout.{lineFields, headerFields, countryCount};
 use notice_line::Line;
 use rate::Offer;
@@ -54,7 +55,7 @@ fn fields_size(fields: Fields) -> usize
 {
     let numbers = fields.numbers;
     let count = fields.count;
-    varint_writing::numbers_size(&numbers[0..count])
+    varint_encoding::numbers_size(&numbers[0..count])
 }
 
 // Writes some fields at a position of a lent slice. Where there is no room, or one is too large, no byte changes.
@@ -72,21 +73,21 @@ fn write_fields(out: &mut [u8], at: usize, fields: Fields) -> Written
 pub fn line_size(line: Line) -> usize
     ensures { λ r. ⌜ r ≡ sizeOfAll (lineFields line) ⌝ }
 {
-    let last = varint_writing::number_size(line.listed);
+    let last = varint_encoding::number_size(line.listed);
     if last == 0 {
         return 0;
     }
     // The digit count, the status and the decimals take a byte each.
     let code = dial_code::key_code(line.key);
-    let most = varint_writing::number_size(code.value) + last + 2;
+    let most = varint_encoding::number_size(code.value) + last + 2;
     let offer = line.offer;
     match offer {
         Offer::Closed => most,
         Offer::Blocked => most,
         Offer::Open { rate, first, next } => {
-            let price = varint_writing::number_size(rate.0 as u64);
-            let start = varint_writing::number_size(first as u64);
-            most + 1 + price + start + varint_writing::number_size(next as u64)
+            let price = varint_encoding::number_size(rate.0 as u64);
+            let start = varint_encoding::number_size(first as u64);
+            most + 1 + price + start + varint_encoding::number_size(next as u64)
         }
     }
 }

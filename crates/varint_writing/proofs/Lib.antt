@@ -1,6 +1,3 @@
--- Laws on groups, room, the laws of a number's bytes, and what several numbers come to.
-pub mod Groups
-pub mod Standing
+-- Laws on room, and what writing several numbers comes to.
 pub mod Room
-pub mod Laws
-pub mod Several
+pub mod Writes

@@ -1,3 +1,2 @@
 -- The rules of writing numbers in groups of seven bits.
 pub mod Writing
-pub mod Several

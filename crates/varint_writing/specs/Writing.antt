@@ -1,49 +1,48 @@
--- Writing a number in groups of seven bits (document 01, "Notice layout").
+-- Writing several numbers one after the other (document 01, "Notice layout").
 use mathlib.Core.Path.{_≡_, refl}
-use mathlib.Core.Bool.{Bool, cond}
-use mathlib.Core.List.{List, [], _∷_}
-use Prim.Native.Nat.{ℕ, zero, suc, _+_, _/_, _%_, _^_}
-use lib.ListN.{length}
-use lib.Dec.{ltb}
-use Rattle.varint.specs.Reading.{mostGroups}
+use mathlib.Core.Bool.{cond}
+use mathlib.Core.List.{List, [], _∷_, _++_}
+use Prim.Native.Nat.{ℕ, _+_, _^_}
+use lib.ListN.{length, take, drop}
+use lib.Dec.{leb}
+use Rattle.varint_encoding.specs.Several.{encodeAll, encodableAll}
+use Rattle.varint_writing.specs.declared.Written.{Written}
+use Rattle.varint_writing.specs.declared.Written.the-variants.{UpTo, NoRoom, TooLarge}
 
--- The groups of a number below 128 ^ k: lowest first, 128 added where another follows.
-unfoldable pub groupsOf : ℕ → ℕ → List ℕ
-groupsOf zero n = []
-groupsOf (suc k) n = cond (ltb n 128) (n ∷ []) ((n % 128 + 128) ∷ groupsOf k (n / 128))
+-- What writing them at a position of a lent slice of so many bytes answers.
+unfoldable pub answerAll : ℕ → ℕ → List ℕ → Written
+unfolding encodableAll encodeAll
+answerAll room at ns =
+    cond (encodableAll ns)
+    (cond (leb (at + length (encodeAll ns)) room) (UpTo (at + length (encodeAll ns))) NoRoom)
+    TooLarge
 
--- The bytes of a number below 2 ^ 63.
-unfoldable pub encode : ℕ → List ℕ
-unfolding groupsOf
-encode n = groupsOf mostGroups n
+-- The bytes that an answer leaves: the numbers' in their place where they were written, else the bytes as they were.
+unfoldable pub leftAll : Written → List ℕ → ℕ → List ℕ → List ℕ
+unfolding encodeAll
+leftAll (UpTo end) s at ns = take at s ++ encodeAll ns ++ drop end s
+leftAll NoRoom s at ns = s
+leftAll TooLarge s at ns = s
 
--- the numbers that nine groups hold
-abbrev pub encodable : ℕ → Bool
-encodable n = ltb n (2 ^ 63)
+-- The bytes that writing them at a position of a lent slice leaves.
+abbrev pub leavesAll : List ℕ → ℕ → List ℕ → List ℕ
+leavesAll s at ns = leftAll (answerAll (length s) at ns) s at ns
 
--- How many bytes a number takes; 0 where it has no encoding.
-unfoldable pub sizeOf : ℕ → ℕ
-sizeOf n = cond (encodable n) (length (encode n)) 0
-
--- P11 the other way round, and the edges of one, two and nine groups
-encoded : List (List ℕ)
-encoded = encode 300 ∷ encode 0 ∷ encode 127 ∷ encode 128 ∷ encode 16383 ∷ encode 0x7fff_ffff_ffff_ffff ∷ []
-
-encoded-so :
-    encoded
-    ≡ (0xAC ∷ 0x02 ∷ [])
-    ∷ (0 ∷ [])
-    ∷ (127 ∷ [])
-    ∷ (128 ∷ 1 ∷ [])
-    ∷ (255 ∷ 127 ∷ [])
-    ∷ (255 ∷ 255 ∷ 255 ∷ 255 ∷ 255 ∷ 255 ∷ 255 ∷ 255 ∷ 127 ∷ [])
+-- none at the end and past it, room to the byte, one byte short, too large where there is no room either
+answers :
+    answerAll 2 2 []
+    ∷ answerAll 2 3 []
+    ∷ answerAll 5 1 (7 ∷ 300 ∷ 0 ∷ [])
+    ∷ answerAll 4 1 (7 ∷ 300 ∷ 0 ∷ [])
+    ∷ answerAll 0 0 (7 ∷ 2 ^ 63 ∷ [])
     ∷ []
-unfolding encoded encode
-encoded-so = refl
+    ≡ UpTo 2 ∷ NoRoom ∷ UpTo 5 ∷ NoRoom ∷ TooLarge ∷ []
+unfolding answerAll
+answers = refl
 
-sizes : List ℕ
-sizes = sizeOf 0 ∷ sizeOf 128 ∷ sizeOf 0x7fff_ffff_ffff_ffff ∷ sizeOf 0x8000_0000_0000_0000 ∷ []
+nines : List ℕ
+nines = 9 ∷ 9 ∷ 9 ∷ 9 ∷ 9 ∷ []
 
-sizes-so : sizes ≡ 1 ∷ 2 ∷ 9 ∷ 0 ∷ []
-unfolding sizes sizeOf encode
-sizes-so = refl
+leaves : leavesAll nines 1 (7 ∷ 300 ∷ []) ∷ leavesAll nines 3 (7 ∷ 300 ∷ []) ∷ [] ≡ (9 ∷ 7 ∷ 0xAC ∷ 0x02 ∷ 9 ∷ []) ∷ nines ∷ []
+unfolding leftAll answerAll nines
+leaves = refl

@@ -1,4 +1,4 @@
-// Numbers in groups of seven bits (document 01, "Notice layout"), sized and written.
+// Numbers in groups of seven bits (document 01, "Notice layout"), written at a position.
 ghost use mathlib.Core.Path.{_≡_};
 ghost use mathlib.Core.Bool.{true};
 ghost use Prim.Native.Nat.{_+_, _*_, _^_, _<_, _≤_};
@@ -6,33 +6,15 @@ ghost use lib.Dec.{leb};
 ghost use lib.ListN.{length};
 ghost use lib.Seq.{sets};
 ghost use Rattle.varint.specs.Reading.{mostGroups};
-ghost use Rattle.varint_writing.specs.Writing.{encode, sizeOf};
-ghost use Rattle.varint_writing.specs.Several.{encodeAll, encodableAll, sizeOfAll, answerAll, leavesAll};
-
-// The least number that nine groups do not hold, 2 to the power 63.
-const TOO_LARGE: u64 = 0x8000_0000_0000_0000;
+ghost use Rattle.varint_encoding.specs.Encoding.{encode};
+ghost use Rattle.varint_encoding.specs.Several.{encodeAll, encodableAll};
+ghost use Rattle.varint_writing.specs.Writing.{answerAll, leavesAll};
 
 // What writing came to: the position after the last number, or why nothing was written.
 pub enum Written {
     UpTo(usize),
     NoRoom,
     TooLarge,
-}
-
-// How many bytes a number takes; 0 where it is too large to have an encoding.
-pub fn number_size(n: u64) -> usize
-    ensures { λ r. ⌜ r ≡ sizeOf n ⌝ }
-{
-    if TOO_LARGE <= n {
-        return 0;
-    }
-    let mut m = n;
-    let mut size: usize = 1;
-    while 128 <= m {
-        m /= 128;
-        size += 1;
-    }
-    size
 }
 
 // Whether so many bytes from a position on stay within so much room.
@@ -62,23 +44,6 @@ fn put_number(out: &mut [u8], at: usize, n: u64) -> usize
     i + 1
 }
 
-// How many bytes several numbers take, one after the other; 0 where one is too large to have an encoding.
-pub fn numbers_size(numbers: &[u64]) -> usize
-    ensures { λ r. ⌜ r ≡ sizeOfAll (now (numbers .entry)) ⌝ }
-{
-    let mut size: usize = 0;
-    let mut i: usize = 0;
-    while i < numbers.len() {
-        let one = number_size(numbers[i]);
-        if one == 0 {
-            return 0;
-        }
-        size += one;
-        i += 1;
-    }
-    size
-}
-
 // Writes several numbers one after the other where there is room for them, and gives the position after them.
 fn put_numbers(out: &mut [u8], at: usize, numbers: &[u64]) -> usize
     requires { ⌜ (encodableAll (now numbers) ≡ true) × (at + length (encodeAll (now numbers)) ≤ length (now out)) ⌝ }
@@ -100,7 +65,7 @@ fn are_encodable(numbers: &[u64]) -> bool
 {
     let mut i: usize = 0;
     while i < numbers.len() {
-        if TOO_LARGE <= numbers[i] {
+        if varint_encoding::TOO_LARGE <= numbers[i] {
             return false;
         }
         i += 1;
@@ -128,7 +93,7 @@ pub fn write_numbers(out: &mut [u8], at: usize, numbers: &[u64]) -> Written
         return Written::TooLarge;
     }
     if !is_ample(out.len(), at, numbers.len()) {
-        if !fits(out.len(), at, numbers_size(numbers)) {
+        if !fits(out.len(), at, varint_encoding::numbers_size(numbers)) {
             return Written::NoRoom;
         }
     }

@@ -4,7 +4,7 @@ use Prim.Native.Nat.{ℕ, _-_}
 use native.Mathlib.Omega.{arith}
 use borrow.Author.Needs.{needs}
 use lib.ListN.{take}
-use Rattle.varint_writing.specs.Several.{sizeOfAll}
+use Rattle.varint_encoding.specs.Several.{sizeOfAll}
 use Rattle.notice_writing.proofs.fields_size.Statement.{statement}
 use Rattle.notice_writing.proofs.fields_size.Tie as tie
 

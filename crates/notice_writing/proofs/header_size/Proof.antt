@@ -1,7 +1,7 @@
 -- header_size meets its contract. Assumes nothing.
 use mathlib.Core.Path.{ap, _∙_}
 use borrow.Author.Needs.{needs}
-use Rattle.varint_writing.specs.Several.{sizeOfAll}
+use Rattle.varint_encoding.specs.Several.{sizeOfAll}
 use Rattle.notice_writing.proofs.header_size.Statement.{statement}
 use Rattle.notice_writing.proofs.header_size.Tie as tie
 

@@ -3,8 +3,8 @@ use mathlib.Core.Path.{_≡_, ap, _∙_}
 use Prim.Native.Nat.{_+_, _≤_}
 use native.Mathlib.Omega.{arith}
 use borrow.Author.Needs.{needs}
-use Rattle.varint_writing.specs.Writing.{sizeOf}
-use Rattle.varint_writing.proofs.Several.{size-most}
+use Rattle.varint_encoding.specs.Encoding.{sizeOf}
+use Rattle.varint_encoding.proofs.Several.{size-most}
 use Rattle.dial_code.specs.Key.{codeOf}
 use Rattle.dial_code.specs.declared.Code.{Code}
 use Rattle.notice_writing.specs.Layout.{offerFields}

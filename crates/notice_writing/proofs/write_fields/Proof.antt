@@ -4,7 +4,7 @@ use Prim.Native.Nat.{ℕ, _-_}
 use native.Mathlib.Omega.{arith}
 use borrow.Author.Needs.{needs}
 use lib.ListN.{take}
-use Rattle.varint_writing.proofs.Several.{ComesAll}
+use Rattle.varint_writing.proofs.Writes.{ComesAll}
 use Rattle.notice_writing.proofs.write_fields.Statement.{statement}
 use Rattle.notice_writing.proofs.write_fields.Tie as tie
 

@@ -3,7 +3,7 @@ use mathlib.Core.Path.{subst}
 use mathlib.Core.List.{List}
 use Prim.Native.Nat.{ℕ}
 use borrow.Author.Needs.{needs}
-use Rattle.varint_writing.proofs.Several.{ComesAll}
+use Rattle.varint_writing.proofs.Writes.{ComesAll}
 use Rattle.notice_writing.specs.Layout.{offerFields}
 use Rattle.notice_writing.proofs.LayoutLaws.{line-sends}
 use Rattle.notice_writing.proofs.write_line.Statement.{statement}

@@ -5,8 +5,8 @@ use Prim.Native.Nat.{_-_}
 use native.Mathlib.Omega.{arith}
 use borrow.Author.Needs.{needs}
 use lib.ListN.{length, drop}
-use Rattle.varint_writing.specs.Several.{encodableAll}
-use Rattle.varint_writing.proofs.Several.{turn-all, turn-none, rests}
+use Rattle.varint_encoding.specs.Several.{encodableAll}
+use Rattle.varint_encoding.proofs.Several.{turn-all, turn-none, rests}
 use Rattle.varint_writing.proofs.are_encodable.Statement.{statement}
 use Rattle.varint_writing.proofs.are_encodable.Tie as tie
 

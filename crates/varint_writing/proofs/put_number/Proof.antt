@@ -7,8 +7,8 @@ use native.Mathlib.Numerals.{add-one}
 use borrow.Author.Needs.{needs}
 use lib.ListN.{length, length-set}
 use lib.Seq.{sets}
-use Rattle.varint_writing.specs.Writing.{groupsOf, encode}
-use Rattle.varint_writing.proofs.Groups.{single, more, some-byte}
+use Rattle.varint_encoding.specs.Encoding.{groupsOf, encode}
+use Rattle.varint_encoding.proofs.Groups.{single, more, some-byte}
 use Rattle.varint_writing.proofs.put_number.Statement.{statement}
 use Rattle.varint_writing.proofs.put_number.Tie as tie
 

@@ -7,8 +7,9 @@ use native.Mathlib.Omega.{arith}
 use borrow.Author.Needs.{needs}
 use lib.ListN.{length, drop}
 use lib.Seq.{sets}
-use Rattle.varint_writing.specs.Several.{encodeAll, encodableAll}
-use Rattle.varint_writing.proofs.Several.{turn-first, turn-length, rests, stores}
+use Rattle.varint_encoding.specs.Several.{encodeAll, encodableAll}
+use Rattle.varint_encoding.proofs.Several.{turn-first, turn-length, rests}
+use Rattle.varint_writing.proofs.Writes.{stores}
 use Rattle.varint_writing.proofs.put_numbers.Statement.{statement}
 use Rattle.varint_writing.proofs.put_numbers.Tie as tie
 

@@ -7,8 +7,9 @@ use native.Mathlib.Omega.{arith}
 use borrow.Author.Needs.{needs}
 use borrow.Author.Tests.{leb-true, leb-false, not-true, not-false}
 use lib.ListN.{length}
-use Rattle.varint_writing.specs.Several.{encodeAll, encodableAll}
-use Rattle.varint_writing.proofs.Several.{all-sized, nine-each, all-too-large, all-no-room, all-written}
+use Rattle.varint_encoding.specs.Several.{encodeAll, encodableAll}
+use Rattle.varint_encoding.proofs.Several.{all-sized, nine-each}
+use Rattle.varint_writing.proofs.Writes.{all-too-large, all-no-room, all-written}
 use Rattle.varint_writing.proofs.write_numbers.Statement.{statement}
 use Rattle.varint_writing.proofs.write_numbers.Tie as tie
 

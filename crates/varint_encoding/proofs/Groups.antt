@@ -10,7 +10,7 @@ use lib.ListN.{length, getD}
 use lib.Dec.{lit<}
 use Rattle.varint.specs.declared.Number.the-variants.{Value}
 use Rattle.varint.specs.Reading.{above, groups}
-use Rattle.varint_writing.specs.Writing.{groupsOf, encode}
+use Rattle.varint_encoding.specs.Encoding.{groupsOf, encode}
 use Rattle.varint.proofs.Groups.{read-last, read-on, above-value}
 
 -- Writing: an encoding is nine groups at most.

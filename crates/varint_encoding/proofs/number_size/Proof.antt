@@ -6,10 +6,10 @@ use native.Mathlib.Omega.{arith}
 use borrow.Author.Needs.{needs}
 use borrow.Author.Tests.{lt-ltb, le-ltb}
 use lib.ListN.{length}
-use Rattle.varint_writing.specs.Writing.{groupsOf, encode, sizeOf}
-use Rattle.varint_writing.proofs.Groups.{single, more}
-use Rattle.varint_writing.proofs.number_size.Statement.{statement}
-use Rattle.varint_writing.proofs.number_size.Tie as tie
+use Rattle.varint_encoding.specs.Encoding.{groupsOf, encode, sizeOf}
+use Rattle.varint_encoding.proofs.Groups.{single, more}
+use Rattle.varint_encoding.proofs.number_size.Statement.{statement}
+use Rattle.varint_encoding.proofs.number_size.Tie as tie
 
 abbrev Inv-loop : tie.InvT-loop
 Inv-loop n m₀ size₀ m size =

@@ -8,10 +8,10 @@ use lib.ListN.{length, getD, take, drop, take-append-drop}
 use lib.Seq.{drop-append-seam, drop-drop, getD-drop}
 use Rattle.varint.specs.declared.Number.the-variants.{Value}
 use Rattle.varint.specs.Reading.{from, readNumber}
-use Rattle.varint_writing.specs.Writing.{encode}
-use Rattle.varint_writing.proofs.Groups.{nine, some-byte, few-bytes, bytes-below, a-byte, back}
+use Rattle.varint_encoding.specs.Encoding.{encode}
+use Rattle.varint_encoding.proofs.Groups.{nine, some-byte, few-bytes, bytes-below, a-byte, back}
 use Rattle.varint.proofs.Values.{front}
-use Rattle.varint_writing.proofs.Standing.{stands}
+use Rattle.varint_encoding.proofs.Standing.{stands}
 
 -- A number's bytes read as the number, wherever they stand.
 pub reads-back : (pre post : List ℕ) (n : ℕ) → n < 2 ^ 63

@@ -5,11 +5,11 @@ use Prim.Native.Nat.{_+_, _-_, _*_, _≤_}
 use native.Mathlib.Omega.{arith}
 use borrow.Author.Needs.{needs}
 use lib.ListN.{length, getD, drop}
-use Rattle.varint_writing.specs.Several.{encodeAll, encodableAll}
-use Rattle.varint_writing.proofs.Laws.{size}
-use Rattle.varint_writing.proofs.Several.{some-size, turn-all, turn-length, stops, rests, all-sized}
-use Rattle.varint_writing.proofs.numbers_size.Statement.{statement}
-use Rattle.varint_writing.proofs.numbers_size.Tie as tie
+use Rattle.varint_encoding.specs.Several.{encodeAll, encodableAll}
+use Rattle.varint_encoding.proofs.Laws.{size}
+use Rattle.varint_encoding.proofs.Several.{some-size, turn-all, turn-length, stops, rests, all-sized}
+use Rattle.varint_encoding.proofs.numbers_size.Statement.{statement}
+use Rattle.varint_encoding.proofs.numbers_size.Tie as tie
 
 abbrev Inv-loop : tie.InvT-loop
 Inv-loop numbers size₀ i₀ size i =

@@ -7,9 +7,9 @@ use native.Mathlib.Omega.{arith}
 use lib.ListN.{length, getD, drop}
 use Rattle.varint.specs.declared.Number.the-variants.{Value}
 use Rattle.varint.specs.Reading.{groups}
-use Rattle.varint_writing.specs.Writing.{groupsOf}
+use Rattle.varint_encoding.specs.Encoding.{groupsOf}
 use Rattle.varint.proofs.Groups.{apart, read-last, read-on, above-so}
-use Rattle.varint_writing.proofs.Groups.{single, several}
+use Rattle.varint_encoding.proofs.Groups.{single, several}
 
 -- The bytes are those that writing the number gives.
 pub record Stands (k : ℕ) (s : List ℕ) (n size : ℕ) : Type 0 where

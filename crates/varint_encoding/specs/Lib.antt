@@ -1,0 +1,3 @@
+-- The rules of numbers' bytes.
+pub mod Encoding
+pub mod Several
