@@ -10,9 +10,9 @@ use Rattle.rate.specs.declared.Offer.{Offer}
 use Rattle.book_words.specs.Layout.{periodOf, receivedOf, latestOf, entriesOf}
 use Rattle.book.specs.Soundness.{sound}
 use Rattle.book.specs.Status.{statusIn, offerIn}
-use Rattle.lookup.specs.Match.{matched}
-use Rattle.lookup.specs.Search.{bestFound}
-use Rattle.lookup.proofs.Matching as matching
+use Rattle.longest_match.specs.Match.{matched}
+use Rattle.longest_match.specs.Search.{bestFound}
+use Rattle.longest_match.proofs.Matching as matching
 use Rattle.book.proofs.Unique as unique
 
 pub best-found :

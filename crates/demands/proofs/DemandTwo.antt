@@ -25,7 +25,7 @@ use Rattle.calendar.specs.declared.Day.{Day}
 use Rattle.rate.specs.declared.Offer.the-variants.{Closed}
 use Rattle.book_words.specs.Layout.{headerWords, held, entriesOf}
 use Rattle.book.specs.Soundness.{sound}
-use Rattle.lookup.specs.Match.{answer}
+use Rattle.longest_match.specs.Match.{answer}
 use Rattle.book.specs.Answers.{freshRefusal, freshBook, bookRefusal}
 use Rattle.lookup.specs.Lookup.{lookup}
 use Rattle.lookup.specs.declared.Lookup.the-variants.{Found}

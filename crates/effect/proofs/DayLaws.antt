@@ -9,8 +9,8 @@ use Rattle.rate.specs.declared.Offer.the-variants.{Open}
 use Rattle.rate.specs.declared.Rate.{Rate}
 use Rattle.notice_line.specs.declared.Line.{Line}
 use Rattle.book_words.specs.Layout.{entry}
-use Rattle.lookup.specs.Search.{bestFound}
-use Rattle.lookup.specs.declared.Answer.{Answer}
+use Rattle.longest_match.specs.Search.{bestFound}
+use Rattle.longest_match.specs.declared.Answer.{Answer}
 use Rattle.history.specs.Effect.{above}
 use Rattle.effect.specs.Lines.{foundIn, raises, wantedBy, effectiveBy, changeBy}
 use Rattle.effect.specs.declared.Plan.{Plan}

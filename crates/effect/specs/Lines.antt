@@ -3,7 +3,7 @@
 use mathlib.Core.Path.{_≡_, refl}
 use mathlib.Core.Bool.{Bool, true, false, cond, _||_}
 use mathlib.Core.List.{List, [], _∷_}
-use Prim.Native.Nat.{ℕ, _-_, max}
+use Prim.Native.Nat.{ℕ, max}
 use Rattle.rate.specs.Price.{rate}
 use Rattle.rate.specs.OfferWord.{wordOf}
 use Rattle.rate.specs.declared.Offer.{Offer}
@@ -13,7 +13,7 @@ use Rattle.notice_line.specs.declared.Line.{Line}
 use Rattle.notice.specs.NoticeRule.{update}
 use Rattle.book_words.specs.Layout.{entry}
 use Rattle.book_words.specs.declared.Entry.{Entry}
-use Rattle.lookup.specs.Search.{bestFound}
+use Rattle.longest_match.specs.Search.{bestFound}
 use Rattle.history.specs.Effect.{above}
 use Rattle.effect.specs.declared.Plan.{Plan}
 

@@ -45,7 +45,7 @@ fn is_increase(old: &[u64], key: u64, day: u64, offer: Offer) -> bool
             first: _,
             next: _,
         } => {
-            let answer = lookup::best_offer(old, key, day);
+            let answer = longest_match::best_offer(old, key, day);
             let found = answer.offer;
             match found {
                 Offer::Closed => false,

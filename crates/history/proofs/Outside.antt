@@ -29,14 +29,14 @@ use Rattle.notice.proofs.LinesLaws.{ValidFrom}
 use Rattle.notice.proofs.NoticeLaws.{Valid}
 use Rattle.book_words.specs.Layout.{headerWords, periodOf, held}
 use Rattle.book.specs.Soundness.{sound}
-use Rattle.lookup.specs.Match.{matched}
+use Rattle.longest_match.specs.Match.{matched}
 use Rattle.book.specs.Answers.{bookRefusal}
 use Rattle.lookup.specs.Lookup.{lookup}
 use Rattle.lookup.specs.declared.Lookup.the-variants.{Found}
 use Rattle.book.proofs.Headers.{sound-book}
 use Rattle.book_words.proofs.BookWords.{entries-back}
 use Rattle.book.proofs.SoundBooks.{sound-back}
-use Rattle.lookup.proofs.Matching.{statusOn, matched-alike}
+use Rattle.longest_match.proofs.Matching.{statusOn, matched-alike}
 use Rattle.book.proofs.Usable.{usable-book, usable-sound}
 use Rattle.lookup.proofs.Lookups.{no-number, no-day, answered}
 use Rattle.history.specs.Effect.{Known, unlisted, Change, from, nothing, lineFor, sameCountry, namedBy, inCountry, closes}

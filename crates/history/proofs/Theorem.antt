@@ -18,7 +18,7 @@ use Rattle.notice.specs.NoticeRule.{Notice, Reading, notice, unread, readNotice
 use Rattle.book_words.specs.Layout.{headerWords, held, entriesOf, bookOf, periodOf, receivedOf}
 use Rattle.book.specs.Soundness.{sound}
 use Rattle.book.specs.Status.{statusIn, offerIn}
-use Rattle.lookup.specs.Match.{matched}
+use Rattle.longest_match.specs.Match.{matched}
 use Rattle.book.specs.Answers.{freshRefusal, freshBook, bookRefusal}
 use Rattle.lookup.specs.Lookup.{lookup}
 use Rattle.book_words.specs.declared.Entry.{Entry}

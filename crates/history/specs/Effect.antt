@@ -3,7 +3,7 @@
 use mathlib.Core.Path.{_≡_, refl}
 use mathlib.Core.Bool.{Bool, true, false, cond, _&&_, _||_}
 use mathlib.Core.List.{List, [], _∷_, map}
-use Prim.Native.Nat.{ℕ, _+_, _-_, max}
+use Prim.Native.Nat.{ℕ, _+_, max}
 use lib.Dec.{eqb, leb, ltb}
 use Rattle.dial_code.specs.Key.{key, placesOf, digitsOfKey}
 use Rattle.country_code.specs.CountryCode.{country, countryOfKey}
@@ -16,7 +16,7 @@ use Rattle.rate.specs.declared.Offer.the-variants.{Closed, Blocked, Open}
 use Rattle.notice_line.specs.LineRule.{lineOf, listedDay}
 use Rattle.notice.specs.NoticeRule.{Notice, full, partial, update, replacement}
 use Rattle.notice_line.specs.declared.Line.{Line}
-use Rattle.lookup.specs.Match.{longest, matched}
+use Rattle.longest_match.specs.Match.{longest, matched}
 
 -- What the notices before give: the status of each code, by its key, on each day, and the latest effective day of their lines.
 pub record Known : Type 0 where

@@ -1,18 +1,16 @@
 -- The plain machine, or history rule (document 01): its state is the notice period and the list of accepted notices.
-use mathlib.Core.Path.{_≡_, refl}
-use mathlib.Core.Bool.{Bool, true, false, cond}
+use mathlib.Core.Bool.{cond}
 use mathlib.Core.List.{List, [], _∷_}
 use Prim.Native.Nat.{ℕ}
 use lib.Dec.{leb, ltb}
 use lib.ListN.{length}
 use Rattle.refusal.specs.Refusal.{bookTooShort, receivedEarlier, bookFull}
 use Rattle.rate.specs.OfferWord.{wordOf}
-use Rattle.rate.specs.declared.Offer.{Offer}
 use Rattle.rate.specs.declared.Offer.the-variants.{Closed}
 use Rattle.notice.specs.NoticeRule.{Notice, Reading, notice, unread, readNotice}
 use Rattle.book_words.specs.Layout.{headerWords, held}
-use Rattle.lookup.specs.Match.{matched}
-use Rattle.lookup.specs.declared.Answer.{Answer}
+use Rattle.longest_match.specs.Match.{matched}
+use Rattle.longest_match.specs.declared.Answer.{Answer}
 use Rattle.history.specs.Effect.{Known, afterNotice}
 use Rattle.history.specs.ChangeDays.{changeDays}
 

@@ -16,7 +16,7 @@ use Rattle.rate.proofs.Words.{only-word}
 use Rattle.notice_line.specs.declared.Line.{Line}
 use Rattle.book.specs.Soundness.{isHeld, isOfferWord}
 use Rattle.book.specs.Status.{statusFrom, statusIn, heldOffer, offerIn}
-use Rattle.lookup.specs.Match.{isStanding}
+use Rattle.longest_match.specs.Match.{isStanding}
 use Rattle.book_words.specs.declared.Entry.{Entry}
 use Rattle.book.proofs.SoundLists.{After, same, next, Allowed, SoundFrom, Sound, after-key}
 use Rattle.book.proofs.Statuses.{smaller, begins-later}

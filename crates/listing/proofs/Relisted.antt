@@ -18,7 +18,7 @@ use Rattle.notice.specs.NoticeRule.{Notice, Reading, notice, readNotice}
 use Rattle.notice_writing.specs.Layout.{encodeNotice}
 use Rattle.book_words.specs.Layout.{headerWords, held, entriesOf}
 use Rattle.book.specs.Status.{offerIn}
-use Rattle.lookup.specs.Match.{answer, longest, matched}
+use Rattle.longest_match.specs.Match.{answer, longest, matched}
 use Rattle.dial_code.specs.Digits.{isDialled}
 use Rattle.book.specs.Answers.{freshRefusal, freshBook, bookRefusal}
 use Rattle.lookup.specs.Lookup.{lookup}

@@ -21,7 +21,7 @@ use Rattle.notice.proofs.LinesLaws.{ValidFrom}
 use Rattle.book_words.specs.Layout.{entry, entriesOf}
 use Rattle.book.specs.Answers.{bookRefusal}
 use Rattle.book.specs.Status.{statusFrom, statusIn, heldOffer, offerIn}
-use Rattle.lookup.specs.Match.{isStanding}
+use Rattle.longest_match.specs.Match.{isStanding}
 use Rattle.book_words.specs.declared.Entry.{Entry}
 use Rattle.book.proofs.SoundLists.{next, SoundFrom, Sound, to-sound}
 use Rattle.book.proofs.Statuses.{smaller, other-key, begins-later, starts-closed}

@@ -21,7 +21,7 @@ use Rattle.notice_writing.specs.Layout.{encodeNotice}
 use Rattle.notice_line.specs.declared.Line.{Line}
 use Rattle.book_words.specs.Layout.{headerWords, entryWords, mostPeriod, entry, entriesOf, bookOf}
 use Rattle.book.specs.Status.{offerIn}
-use Rattle.lookup.specs.Match.{isStanding}
+use Rattle.longest_match.specs.Match.{isStanding}
 use Rattle.book.specs.Answers.{bookRefusal}
 use Rattle.book_words.specs.declared.Entry.{Entry}
 use Rattle.listing.specs.declared.Listed.{Listed}

@@ -1,4 +1,2 @@
 -- The laws of lookups.
-pub mod Halving
-pub mod Matching
 pub mod Lookups

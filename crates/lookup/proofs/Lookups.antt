@@ -16,10 +16,10 @@ use Rattle.dial_code.proofs.KeyLaws.{digits-back}
 use Rattle.calendar.specs.Time.{isDay}
 use Rattle.calendar.specs.declared.Day.{Day}
 use Rattle.book.specs.Answers.{bookRefusal}
-use Rattle.lookup.specs.Match.{matched}
+use Rattle.longest_match.specs.Match.{matched}
 use Rattle.lookup.specs.Lookup.{lookup}
 use Rattle.lookup.specs.declared.Lookup.the-variants.{Found, Refused}
-use Rattle.lookup.proofs.Matching.{statusOn}
+use Rattle.longest_match.proofs.Matching.{statusOn}
 
 number-test : (s : List ℕ) → numberKey s ≡ cond (isDialled s) (Key (key (map digitOf s))) (NoKey notANumber)
 unfolding numberKey

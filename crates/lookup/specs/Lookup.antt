@@ -10,7 +10,7 @@ use Rattle.calendar.specs.declared.Day.{Day}
 use Rattle.book_words.specs.Layout.{entriesOf}
 use Rattle.book.specs.Status.{offerIn}
 use Rattle.book.specs.Answers.{bookRefusal}
-use Rattle.lookup.specs.Match.{matched}
+use Rattle.longest_match.specs.Match.{matched}
 use Rattle.lookup.specs.declared.Lookup.{Lookup}
 use Rattle.lookup.specs.declared.Lookup.the-variants.{Found, Refused}
 

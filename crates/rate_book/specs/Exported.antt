@@ -9,7 +9,7 @@ use Rattle.calendar.specs.declared.Moment.{Moment}
 use Rattle.rate.specs.declared.Offer.{Offer}
 use Rattle.rate.specs.declared.Offer.the-variants.{Closed, Blocked, Open}
 use Rattle.book_words.specs.Layout.{headerWords, entryWords, mostEntries, mostWords, held}
-use Rattle.lookup.specs.Match.{answer}
+use Rattle.longest_match.specs.Match.{answer}
 use Rattle.lookup.specs.declared.Lookup.{Lookup}
 use Rattle.lookup.specs.declared.Lookup.the-variants.{Found, Refused}
 use Rattle.history.specs.declared.Applied.{Applied}

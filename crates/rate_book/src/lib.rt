@@ -14,7 +14,7 @@ use calendar::Day;
 use calendar::Moment;
 use history::Applied;
 use listing::Listed;
-use lookup::Answer;
+use longest_match::Answer;
 use lookup::Lookup;
 use rate::Offer;
 use rating::Call;

@@ -27,8 +27,8 @@ use Rattle.book.specs.Soundness.{sound, soundEntries}
 use Rattle.book.specs.Status.{statusIn}
 use Rattle.book.proofs.Headers.{sound-book, sound-count}
 use Rattle.book_words.proofs.Rows.{of-book}
-use Rattle.lookup.specs.declared.Answer.{Answer}
-use Rattle.lookup.proofs.Matching.{best-found}
+use Rattle.longest_match.specs.declared.Answer.{Answer}
+use Rattle.longest_match.proofs.Matching.{best-found}
 use Rattle.book.proofs.SoundLists.{to-sound}
 use Rattle.book.proofs.Unique.{unique}
 use Rattle.history.specs.Effect.{Known, Listing, listed, unlisted, from, nothing, effective, lineFor, closes, closing, listedChange, changeOf, changed}

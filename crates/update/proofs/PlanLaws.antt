@@ -19,7 +19,7 @@ use Rattle.history.specs.Effect.{Known, increases, wanted, floorOf, someEarlier
 use Rattle.rate.specs.declared.Offer.{Offer}
 use Rattle.rate.specs.declared.Offer.the-variants.{Closed, Blocked, Open}
 use Rattle.dial_code.specs.Key.{digitsOfKey}
-use Rattle.lookup.specs.Match.{matched}
+use Rattle.longest_match.specs.Match.{matched}
 use Rattle.effect.specs.Lines.{raises, effectiveBy, latestBy}
 use Rattle.update.specs.Plans.{planOf}
 

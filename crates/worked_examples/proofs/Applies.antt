@@ -18,7 +18,7 @@ use Rattle.rate.specs.declared.Offer.the-variants.{Closed, Open}
 use Rattle.charging.specs.declared.Charged.the-variants as charged
 use Rattle.notice.specs.NoticeRule.{Notice, notice, readNotice, readHeader}
 use Rattle.book_words.specs.Layout.{headerWords, entryWords, held}
-use Rattle.lookup.specs.Match.{answer, matched}
+use Rattle.longest_match.specs.Match.{answer, matched}
 use Rattle.book.specs.Answers.{freshRefusal, freshBook}
 use Rattle.lookup.specs.Lookup.{lookup}
 use Rattle.lookup.specs.declared.Lookup.the-variants.{Found}

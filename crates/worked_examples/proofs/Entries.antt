@@ -24,7 +24,7 @@ use Rattle.notice_line.specs.declared.Line.{Line}
 use Rattle.book_words.specs.Layout.{entry}
 use Rattle.book.specs.Soundness.{soundEntries}
 use Rattle.book.specs.Status.{statusIn}
-use Rattle.lookup.specs.Match.{matched}
+use Rattle.longest_match.specs.Match.{matched}
 use Rattle.book_words.specs.declared.Entry.{Entry}
 use Rattle.book.proofs.SoundLists.{to-sound}
 use Rattle.book.proofs.Unique.{unique}

@@ -26,8 +26,8 @@ use Rattle.notice.specs.NoticeRule.{Reading, notice, isCountryCode, readCountry
 use Rattle.notice.specs.NoticeRule.{readLines, readNotice}
 use Rattle.notice_line.specs.declared.Line.{Line}
 use Rattle.book_words.specs.Layout.{entry}
-use Rattle.lookup.specs.Match.{answer, matched}
-use Rattle.lookup.specs.declared.Answer.{Answer}
+use Rattle.longest_match.specs.Match.{answer, matched}
+use Rattle.longest_match.specs.declared.Answer.{Answer}
 use Rattle.book_words.specs.declared.Entry.{Entry}
 use Rattle.history.specs.Effect.{someEarlier, effective, lineFor, namedBy, closes, closing, changeOf, latestEffective}
 use Rattle.history.specs.ChangeDays.{changeDays}

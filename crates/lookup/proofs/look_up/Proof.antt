@@ -2,10 +2,10 @@
 use mathlib.Core.Path.{_≡_, ap, sym, _∙_}
 use borrow.Author.Needs.{needs}
 use borrow.Author.Tests.{not-true, not-false}
-use Rattle.lookup.specs.Match.{matched}
+use Rattle.longest_match.specs.Match.{matched}
 use Rattle.book.specs.Answers.{bookRefusal}
 use Rattle.lookup.specs.declared.Lookup.the-variants.{Found, Refused}
-use Rattle.lookup.proofs.Matching.{statusOn, best-found}
+use Rattle.longest_match.proofs.Matching.{statusOn, best-found}
 use Rattle.lookup.proofs.Lookups.{Dialled, dialled, not-dialled, no-book, no-number, no-day, answered}
 use Rattle.book.proofs.Usable.{usable-sound}
 use Rattle.lookup.proofs.look_up.Statement.{statement}

@@ -1,9 +1,9 @@
--- `lookup::entry_in` meets its contract. Assumes nothing.
+-- `longest_match::entry_in` meets its contract. Assumes nothing.
 use mathlib.Core.Path.{refl}
 use borrow.Author.Needs.{needs}
 use Rattle.book_words.specs.Layout.{entryAt}
-use Rattle.lookup.proofs.entry_in.Statement.{statement}
-use Rattle.lookup.proofs.entry_in.Tie as tie
+use Rattle.longest_match.proofs.entry_in.Statement.{statement}
+use Rattle.longest_match.proofs.entry_in.Tie as tie
 
 returns : tie.Need-returns
 unfolding entryAt

@@ -24,13 +24,13 @@ use Rattle.rate.specs.declared.Offer.{Offer}
 use Rattle.rate.specs.declared.Offer.the-variants.{Closed, Blocked, Open}
 use Rattle.book_words.specs.Layout.{countOf, noEntry, entriesOf}
 use Rattle.book.specs.Soundness.{headedCount, sound}
-use Rattle.lookup.specs.Search.{upTo, foundUpTo, lastEntry, ownWord, tried, bestFound}
+use Rattle.longest_match.specs.Search.{upTo, foundUpTo, lastEntry, ownWord, tried, bestFound}
 use Rattle.book.specs.Status.{heldOffer, offerIn}
-use Rattle.lookup.specs.Match.{answer, isStanding, standing, longest, matched}
-use Rattle.lookup.specs.declared.Answer.{Answer}
+use Rattle.longest_match.specs.Match.{answer, isStanding, standing, longest, matched}
+use Rattle.longest_match.specs.declared.Answer.{Answer}
 use Rattle.book_words.specs.declared.Entry.{Entry}
-use Rattle.lookup.proofs.Halving.{Turns, found-turns, found-widely, found-between, after-smaller, other-offer}
-use Rattle.lookup.proofs.Halving.{found-most, no-last, closed-offer, last-status}
+use Rattle.longest_match.proofs.Halving.{Turns, found-turns, found-widely, found-between, after-smaller, other-offer}
+use Rattle.longest_match.proofs.Halving.{found-most, no-last, closed-offer, last-status}
 use Rattle.book.proofs.Headers.{sound-count}
 use Rattle.book.proofs.SoundLists.{entries-sound}
 use Rattle.book.proofs.Statuses.{starts-closed, no-code}

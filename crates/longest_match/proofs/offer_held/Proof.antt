@@ -2,8 +2,8 @@
 use mathlib.Core.Path.{ap, sym, _∙_}
 use borrow.Author.Needs.{needs}
 use Rattle.book.specs.Status.{heldOffer}
-use Rattle.lookup.proofs.offer_held.Statement.{statement}
-use Rattle.lookup.proofs.offer_held.Tie as tie
+use Rattle.longest_match.proofs.offer_held.Statement.{statement}
+use Rattle.longest_match.proofs.offer_held.Tie as tie
 
 word-offer-requires : tie.Need-word-offer-requires
 word-offer-requires c κs = search needs

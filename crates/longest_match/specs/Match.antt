@@ -12,7 +12,7 @@ use Rattle.rate.specs.declared.Offer.the-variants.{Closed, Blocked, Open}
 use Rattle.book_words.specs.Layout.{entry}
 use Rattle.book.specs.Status.{offerIn}
 use Rattle.book_words.specs.declared.Entry.{Entry}
-use Rattle.lookup.specs.declared.Answer.{Answer}
+use Rattle.longest_match.specs.declared.Answer.{Answer}
 
 abbrev pub answer : ℕ → Offer → Answer
 answer k o = record { key = k; offer = o }

@@ -1,9 +1,9 @@
 -- last_entry meets its contract: the entry before so many, or zeros. Assumes nothing.
 use mathlib.Core.Path.{sym, _∙_}
 use borrow.Author.Needs.{needs}
-use Rattle.lookup.proofs.Halving.{no-last, some-last}
-use Rattle.lookup.proofs.last_entry.Statement.{statement}
-use Rattle.lookup.proofs.last_entry.Tie as tie
+use Rattle.longest_match.proofs.Halving.{no-last, some-last}
+use Rattle.longest_match.proofs.last_entry.Statement.{statement}
+use Rattle.longest_match.proofs.last_entry.Tie as tie
 
 returns : tie.Need-returns
 returns c = sym (no-last _ _ (c .if1 .taken))

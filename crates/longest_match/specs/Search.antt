@@ -13,9 +13,9 @@ use Rattle.rate.specs.declared.Offer.the-variants.{Closed, Blocked, Open}
 use Rattle.book_words.specs.Layout.{headerWords, entryWords, header, wordsOfHeader, entry, noEntry, entryAt, wordsOf, bookOf}
 use Rattle.book.specs.Soundness.{headedCount}
 use Rattle.book.specs.Status.{heldOffer}
-use Rattle.lookup.specs.Match.{answer, standing}
+use Rattle.longest_match.specs.Match.{answer, standing}
 use Rattle.book_words.specs.declared.Entry.{Entry}
-use Rattle.lookup.specs.declared.Answer.{Answer}
+use Rattle.longest_match.specs.declared.Answer.{Answer}
 
 -- An entry of a smaller key, or of the key and not after the day.
 unfoldable pub notAfter : Entry → ℕ → ℕ → Bool

@@ -8,14 +8,14 @@ use borrow.Author.Needs.{needs}
 use lib.ListN.{length}
 use Rattle.dial_code.proofs.CountedKeys.{next-weight, weight-most}
 use Rattle.book_words.specs.Layout.{headerWords, entryWords}
-use Rattle.lookup.specs.Search.{tried, bestFound}
-use Rattle.lookup.specs.Match.{standing}
+use Rattle.longest_match.specs.Search.{tried, bestFound}
+use Rattle.longest_match.specs.Match.{standing}
 use Rattle.book.proofs.Headers.{count-room}
-use Rattle.lookup.proofs.Halving.{found-room}
-use Rattle.lookup.proofs.Matching.{stands, passes, place-key, next-quotient, prefix-most}
-use Rattle.lookup.proofs.Matching.{starts, no-place, no-entry, passed-by, searched}
-use Rattle.lookup.proofs.best_offer.Statement.{statement}
-use Rattle.lookup.proofs.best_offer.Tie as tie
+use Rattle.longest_match.proofs.Halving.{found-room}
+use Rattle.longest_match.proofs.Matching.{stands, passes, place-key, next-quotient, prefix-most}
+use Rattle.longest_match.proofs.Matching.{starts, no-place, no-entry, passed-by, searched}
+use Rattle.longest_match.proofs.best_offer.Statement.{statement}
+use Rattle.longest_match.proofs.best_offer.Tie as tie
 
 abbrev Inv-loop : tie.InvT-loop
 Inv-loop words key day count₀ bound₀ quotient₀ place₀ n₀ count bound quotient place n =

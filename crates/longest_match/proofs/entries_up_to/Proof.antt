@@ -4,10 +4,10 @@ use mathlib.Core.Path.{_≡_, sym, _∙_}
 use Prim.Native.Nat.{ℕ, _-_, _≤_}
 use native.Mathlib.Omega.{arith}
 use borrow.Author.Needs.{needs}
-use Rattle.lookup.specs.Search.{halved, upTo, foundUpTo}
-use Rattle.lookup.proofs.Halving.{halving, goes-behind, goes-before, stays, tested}
-use Rattle.lookup.proofs.entries_up_to.Statement.{statement}
-use Rattle.lookup.proofs.entries_up_to.Tie as tie
+use Rattle.longest_match.specs.Search.{halved, upTo, foundUpTo}
+use Rattle.longest_match.proofs.Halving.{halving, goes-behind, goes-before, stays, tested}
+use Rattle.longest_match.proofs.entries_up_to.Statement.{statement}
+use Rattle.longest_match.proofs.entries_up_to.Tie as tie
 
 abbrev Inv-loop : tie.InvT-loop
 Inv-loop words count key day lo₀ hi₀ lo hi =

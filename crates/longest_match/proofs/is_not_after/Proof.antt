@@ -2,9 +2,9 @@
 use mathlib.Core.Path.{sym}
 use native.Mathlib.Omega.{arith}
 use borrow.Author.Tests.{eq-eqb, ne-eqb, lt-ltb, le-ltb}
-use Rattle.lookup.specs.Search.{notAfter}
-use Rattle.lookup.proofs.is_not_after.Statement.{statement}
-use Rattle.lookup.proofs.is_not_after.Tie as tie
+use Rattle.longest_match.specs.Search.{notAfter}
+use Rattle.longest_match.proofs.is_not_after.Statement.{statement}
+use Rattle.longest_match.proofs.is_not_after.Tie as tie
 
 returns : tie.Need-returns
 unfolding notAfter

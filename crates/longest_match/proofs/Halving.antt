@@ -12,7 +12,7 @@ use lib.Dec.{eqb, leb, ltb}
 use lib.ListN.{length}
 use Rattle.dial_code.proofs.Tests.{below, equal, above, order}
 use Rattle.book_words.specs.Layout.{headerWords, entryWords, countOf, noEntry, entryAt, entriesFrom, entriesOf}
-use Rattle.lookup.specs.Search.{notAfter, halved, upTo, foundUpTo, lastEntry, ownWord}
+use Rattle.longest_match.specs.Search.{notAfter, halved, upTo, foundUpTo, lastEntry, ownWord}
 use Rattle.book.specs.Soundness.{sound}
 use Rattle.book.specs.Status.{statusFrom, statusIn}
 use Rattle.book_words.specs.declared.Entry.{Entry}

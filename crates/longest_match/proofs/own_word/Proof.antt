@@ -1,8 +1,8 @@
 -- own_word meets its contract: an offer word of the code, or closed. Assumes nothing.
 use mathlib.Core.Path.{sym}
-use Rattle.lookup.proofs.Halving.{own-offer, other-offer}
-use Rattle.lookup.proofs.own_word.Statement.{statement}
-use Rattle.lookup.proofs.own_word.Tie as tie
+use Rattle.longest_match.proofs.Halving.{own-offer, other-offer}
+use Rattle.longest_match.proofs.own_word.Statement.{statement}
+use Rattle.longest_match.proofs.own_word.Tie as tie
 
 returns : tie.Need-returns
 returns c = sym (own-offer _ _ (c .if1 .taken))

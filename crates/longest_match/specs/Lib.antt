@@ -1,0 +1,3 @@
+-- The rules of the longest match and of the search by halving.
+pub mod Match
+pub mod Search
