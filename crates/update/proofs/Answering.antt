@@ -23,7 +23,8 @@ use Rattle.book.proofs.Headers.{sound-book}
 use Rattle.book.proofs.Usable.{usable-book}
 use Rattle.history.specs.Applying.{afterBook, newEntries, judgedBy, applyRefusal, refusedApply, applyAnswer, applied}
 use Rattle.history.specs.declared.Applied.{Applied}
-use Rattle.update.specs.Plans.{planOf, marksFor}
+use Rattle.update.specs.Plans.{planOf}
+use Rattle.country_marks.specs.Marks.{marksFor}
 use Rattle.effect.specs.Lines.{foundIn, latestBy}
 use Rattle.effect.specs.declared.Plan.{Plan}
 use Rattle.merge.specs.Lines.{linesAt}

@@ -23,9 +23,10 @@ use Rattle.notice_line.specs.declared.Line.{Line}
 use Rattle.notice.specs.declared.Summary.{Summary}
 use Rattle.history.specs.Effect.{sameCountry, namedBy, inCountry, closes}
 use Rattle.effect.specs.Closings.{isMarked, closesIn, closesBy}
-use Rattle.update.specs.Plans.{planOf, marked, marksOf, noMarks, marksFor}
+use Rattle.update.specs.Plans.{planOf}
+use Rattle.country_marks.specs.Marks.{marked, marksOf, noMarks, marksFor}
 use Rattle.update.proofs.PlanLaws.{Summed}
-use Rattle.update.proofs.Planning.{length-marked}
+use Rattle.country_marks.proofs.Marking.{length-marked}
 
 -- a mark below the table's length
 marked-at :

@@ -42,7 +42,8 @@ use Rattle.merge_rule.specs.Passes.{merged}
 use Rattle.effect.specs.Lines.{foundIn, raises, wantedBy, effectiveBy, changeBy, changesBy, latestBy}
 use Rattle.effect.specs.Closings.{closesBy}
 use Rattle.merge.specs.Merge.{mergedBy}
-use Rattle.update.specs.Plans.{planOf, marksFor}
+use Rattle.update.specs.Plans.{planOf}
+use Rattle.country_marks.specs.Marks.{marksFor}
 use Rattle.effect.specs.declared.Plan.{Plan}
 use Rattle.update.proofs.PlanLaws.{Summed, given, effective-is, closing-is, latest-is}
 use Rattle.update.proofs.Marks.{closes-is}

@@ -1,19 +1,12 @@
--- The plan of a notice and its marks, by the tests of the code. Assumes nothing.
-use mathlib.Core.Path.{_≡_, refl, sym, _∙_}
+-- The plan of a notice, by the tests of the code. Assumes nothing.
+use mathlib.Core.Path.{_≡_}
 use mathlib.Core.Bool.{true}
-use mathlib.Core.List.{List, [], _∷_}
-use Prim.Native.Nat.{ℕ, _+_, _≤_, max}
+use Prim.Native.Nat.{ℕ, _+_, max}
 use borrow.Author.Tests.{eq-eqb, ne-eqb}
 use lib.Dec.{ltb}
-use lib.ListN.{length, set, length-set}
-use lib.Seq.{set-out}
-use Rattle.country_code.specs.CountryCode.{countryOfKey}
-use Rattle.country_code.specs.declared.Country.{Country}
-use Rattle.country_code.specs.declared.Country.the-variants.{Code, None}
-use Rattle.notice.specs.NoticeRule.{partial, replacement}
-use Rattle.notice_line.specs.declared.Line.{Line}
+use Rattle.notice.specs.NoticeRule.{replacement}
 use Rattle.notice.specs.declared.Summary.{Summary}
-use Rattle.update.specs.Plans.{earliestWanted, planOf, marked, marksOf, noMarks, marksFor}
+use Rattle.update.specs.Plans.{earliestWanted, planOf}
 
 -- The plan of a replacement, and of another notice.
 module _ (m : Summary) (period latest : ℕ) {wanted : ℕ} where
@@ -42,40 +35,3 @@ module _ (m : Summary) (period latest : ℕ) {wanted : ℕ} where
       ≡ planOf m period latest
   unfolding planOf
   keeps k w = rw (w, ne-eqb (m .kind) replacement k)
-
--- The marks of a country, of one past the table, and of lines one at a time.
-pub marks-one : {x : Country} (marks : List ℕ) {n : ℕ} → x ≡ Code n → set marks n 1 ≡ marked x marks
-marks-one marks e = rw e
-
-pub marks-none : {x : Country} (marks : List ℕ) → x ≡ None → marks ≡ marked x marks
-marks-none marks e = rw e
-
-pub marks-past : {x : Country} (marks : List ℕ) {n : ℕ} → x ≡ Code n → length marks ≤ n → marks ≡ marked x marks
-marks-past marks {n} e h = sym (set-out marks n 1 h) ∙ marks-one marks e
-
-pub marks-end : (marks : List ℕ) → marks ≡ marksOf marks []
-unfolding marksOf
-marks-end marks = refl
-
-pub marks-turn : (marks : List ℕ) {next : List ℕ} (l : Line) {ls others : List Line} → ls ≡ l ∷ others
-    → next ≡ marked (countryOfKey (l .key)) marks → marksOf next others ≡ marksOf marks ls
-unfolding marksOf
-marks-turn marks l e f = rw (e, f)
-
-pub length-marked : (x : Country) (marks : List ℕ) → length (marked x marks) ≡ length marks
-length-marked (Code n) marks = length-set marks n 1
-length-marked None marks = refl
-
-pub marks-kept : (x : Country) (marks : List ℕ) {next : List ℕ} → next ≡ marked x marks → length marks ≤ 1000
-    → length next ≤ 1000
-marks-kept x marks e h = rw (e, length-marked x marks) h
-
--- The marks of a notice: those of its lines where it is partial, else none.
-pub marks-partial : {kind : ℕ} {marks : List ℕ} (ls : List Line) → kind ≡ partial → marks ≡ marksOf noMarks ls
-    → marks ≡ marksFor kind ls
-unfolding marksFor
-marks-partial {kind} ls k e = rw (eq-eqb kind partial k) e
-
-pub marks-else : (kind : ℕ) (ls : List Line) → (kind ≡ partial → ⊥) → noMarks ≡ marksFor kind ls
-unfolding marksFor
-marks-else kind ls k = rw (ne-eqb kind partial k)

@@ -5,7 +5,6 @@ ghost use mathlib.Core.Bool.{true};
 ghost use Prim.Native.Nat.{_+_, _*_, _≤_};
 ghost use lib.Dec.{leb};
 ghost use lib.ListN.{length};
-ghost use Rattle.country_code.specs.CountryCode.{countryOfKey};
 ghost use Rattle.calendar.specs.Time.{lastReceivedDay};
 ghost use Rattle.notice.specs.NoticeRule.{mostLines, checkNotice};
 ghost use Rattle.notice.specs.declared.Checked.the-variants.{Notice};
@@ -15,15 +14,13 @@ ghost use Rattle.history.specs.Applying.{refusedApply, applyAnswer, applied};
 ghost use Rattle.effect.specs.Lines.{foundIn, latestBy};
 ghost use Rattle.merge.specs.Lines.{linesAt};
 ghost use Rattle.merge.specs.Merge.{mergedBy};
-ghost use Rattle.update.specs.Plans.{planOf, marked, marksOf, marksFor};
+ghost use Rattle.update.specs.Plans.{planOf};
 use book_words::Header;
-use country_code::Country;
 use effect::Plan;
 use history::Applied;
 use merge::Merged;
 use notice::Checked;
 use notice::Summary;
-use notice_line::LineRead;
 
 // Applies a notice to an old book and writes the new one: 20 and 21 for the old book, 20 for the new, the notice's own refusals,
 // 10, 30. A refused apply changes no word.
@@ -66,7 +63,7 @@ fn apply_checked(old: &[u64], notice: &[u8], m: Summary, new: &mut [u64]) -> App
         return refused(refusal::RECEIVED_EARLIER);
     }
     let plan = plan_of(m, header.period, header.latest);
-    let marks = marks_for(notice, m);
+    let marks = country_marks::marks_for(notice, m);
     if !has_room(old, notice, m, plan, &marks, new.len()) {
         return refused(refusal::BOOK_FULL);
     }
@@ -104,51 +101,6 @@ fn plan_of(m: Summary, period: u64, latest: u64) -> Plan
         noticed: wanted < latest,
         closing: floor,
     }
-}
-
-// Marks the country of a key.
-fn mark(marks: &mut [u8; 1000], key: u64)
-    requires { ⌜ length (now marks) ≤ 1000 ⌝ }
-    ensures { λ _. ⌜ now (marks .exit) ≡ marked (countryOfKey key) (now (marks .entry)) ⌝ }
-{
-    if let Country::Code(country) = country_code::country_of_key(key) {
-        if country < 1000 {
-            let at = country as usize;
-            marks[at] = 1;
-        }
-    }
-}
-
-// Marks the countries of so many lines.
-fn mark_lines(notice: &[u8], start: usize, lines: u64, marks: &mut [u8; 1000])
-    requires { ⌜ length (now marks) ≤ 1000 ⌝ }
-    ensures { λ _. ⌜ now (marks .exit) ≡ marksOf (now (marks .entry)) (linesAt lines (now (notice .entry)) start) ⌝ }
-{
-    let mut at = start;
-    let mut left = lines;
-    while 0 < left {
-        match notice_line::line_at(notice, at) {
-            LineRead::Refused(_) => {
-                return;
-            }
-            LineRead::Read(line, end) => {
-                mark(marks, line.key);
-                at = end;
-                left -= 1;
-            }
-        }
-    }
-}
-
-// For a partial notice the countries named are first noted in a table of 1,000 marks, one for each value from 0 to 999.
-fn marks_for(notice: &[u8], m: Summary) -> [u8; 1000]
-    ensures { λ r. ⌜ r ≡ marksFor (m .kind) (linesAt (m .lines) (now (notice .entry)) (m .start)) ⌝ }
-{
-    let mut marks = [0u8; 1000];
-    if m.kind == notice::PARTIAL {
-        mark_lines(notice, m.start, m.lines, &mut marks);
-    }
-    marks
 }
 
 // Whether a new book of so many words can hold the merged entries. They are at most two for each old entry and one for each line,

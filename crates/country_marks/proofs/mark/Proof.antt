@@ -1,12 +1,12 @@
--- `update::mark` meets its contract: a country past the table would change nothing in it. Assumes nothing.
+-- `country_marks::mark` meets its contract: a country past the table would change nothing in it. Assumes nothing.
 use mathlib.Core.Path.{_≡_, sym, _∙_}
 use native.Mathlib.Omega.{arith}
 use borrow.Author.Needs.{needs}
 use Rattle.country_code.specs.CountryCode.{countryOfKey}
 use Rattle.country_code.specs.declared.Country.the-variants.{Code}
-use Rattle.update.proofs.Planning.{marks-one, marks-past, marks-none}
-use Rattle.update.proofs.mark.Statement.{statement}
-use Rattle.update.proofs.mark.Tie as tie
+use Rattle.country_marks.proofs.Marking.{marks-one, marks-past, marks-none}
+use Rattle.country_marks.proofs.mark.Statement.{statement}
+use Rattle.country_marks.proofs.mark.Tie as tie
 
 -- the country of the key
 in-country : (c : tie.After-country) → countryOfKey (c .before .before .before .args .key) ≡ Code (c .country .given .0 .0)

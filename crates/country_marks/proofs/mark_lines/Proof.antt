@@ -1,4 +1,4 @@
--- `update::mark_lines` meets its contract. The invariant: marking the lines that are left comes to the marks of all of them. The
+-- `country_marks::mark_lines` meets its contract. The invariant: marking the lines that are left comes to the marks of all of them. The
 -- measure is the number of lines left. Assumes nothing.
 use mathlib.Core.Path.{_≡_, refl, ap, sym, _∙_}
 use Prim.Native.Nat.{_≤_}
@@ -8,10 +8,10 @@ use lib.ListN.{length}
 use Rattle.country_code.specs.CountryCode.{countryOfKey}
 use Rattle.merge.specs.Lines.{linesAt}
 use Rattle.merge.proofs.LinesAgain.{lines-none-left, line-read, line-refused}
-use Rattle.update.specs.Plans.{marksOf}
-use Rattle.update.proofs.Planning.{marks-kept, marks-turn, marks-end}
-use Rattle.update.proofs.mark_lines.Statement.{statement}
-use Rattle.update.proofs.mark_lines.Tie as tie
+use Rattle.country_marks.specs.Marks.{marksOf}
+use Rattle.country_marks.proofs.Marking.{marks-kept, marks-turn, marks-end}
+use Rattle.country_marks.proofs.mark_lines.Statement.{statement}
+use Rattle.country_marks.proofs.mark_lines.Tie as tie
 
 abbrev Inv-loop : tie.InvT-loop
 Inv-loop notice start lines marks₀ at₀ left₀ marks at left =

@@ -1,0 +1,2 @@
+-- The rule of a notice's marks.
+pub mod Marks
