@@ -1,3 +1,2 @@
--- The laws of effective days and of closings.
+-- The laws of effective days.
 pub mod DayLaws
-pub mod ClosingLaws

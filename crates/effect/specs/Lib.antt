@@ -1,3 +1,2 @@
--- What a notice asks of its lines and of the codes that it does not list, as the passes over a book work it.
+-- What a notice asks of its lines, as the passes over a book work it.
 pub mod Lines
-pub mod Closings

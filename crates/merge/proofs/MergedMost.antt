@@ -11,7 +11,7 @@ use Rattle.book_words.specs.Layout.{headerWords, entriesFrom}
 use Rattle.book.specs.Soundness.{headedCount}
 use Rattle.book_words.proofs.Rows.{length-rows}
 use Rattle.effect.specs.Lines.{foundIn, changesBy}
-use Rattle.effect.specs.Closings.{closesBy}
+use Rattle.closing.specs.Closings.{closesBy}
 use Rattle.effect.specs.declared.Plan.{Plan}
 use Rattle.merge_rule.proofs.MergedLength.{merged-length}
 use Rattle.merge.specs.Merge.{mergedBy}

@@ -19,7 +19,7 @@ use Rattle.book_words.specs.declared.Entry.{Entry}
 use Rattle.book_words.proofs.Rows.{length-rows}
 use Rattle.book_words.proofs.Places.{puts-all}
 use Rattle.effect.specs.Lines.{foundIn, effectiveBy, changeBy, changesBy, latestBy}
-use Rattle.effect.specs.Closings.{closesBy}
+use Rattle.closing.specs.Closings.{closesBy}
 use Rattle.effect.specs.declared.Plan.{Plan}
 use Rattle.merge_rule.specs.Passes.{gapBelow, lineEntries, lineRest, merged}
 use Rattle.merge_rule.proofs.MergedLength.{line-length}

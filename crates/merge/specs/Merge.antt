@@ -10,7 +10,7 @@ use Rattle.book_words.specs.Layout.{headerWords, entryWords, mostEntries, mostW
 use Rattle.book.specs.Soundness.{headedCount}
 use Rattle.book_words.specs.declared.Entry.{Entry}
 use Rattle.effect.specs.Lines.{foundIn, changesBy, latestBy}
-use Rattle.effect.specs.Closings.{closesBy}
+use Rattle.closing.specs.Closings.{closesBy}
 use Rattle.effect.specs.declared.Plan.{Plan}
 use Rattle.merge_rule.specs.Passes.{keptOf, statusOf, restAfter, merged}
 use Rattle.merge.specs.Lines.{linesAt}

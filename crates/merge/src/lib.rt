@@ -5,7 +5,7 @@ ghost use mathlib.Core.List.{[], _∷_};
 ghost use Prim.Native.Nat.{_+_, _-_, _*_, _≤_, min};
 ghost use lib.ListN.{length};
 ghost use Rattle.book_words.specs.Layout.{entryWords, entryAt, entriesFrom, putEntries};
-ghost use Rattle.effect.specs.Closings.{closesBy};
+ghost use Rattle.closing.specs.Closings.{closesBy};
 ghost use Rattle.merge_rule.specs.Passes.{goesOn, unlistedAs, gapBelow, restFrom, listedGroup, keptOf, restAfter, lineEntries, lineRest};
 ghost use Rattle.merge.specs.Merge.{mostMerged, stands, roomIn, Passed, PassedListed, mergedAnswer, mergedLeaves};
 use book_words::Entry;
@@ -153,7 +153,7 @@ fn pass_unlisted(
     let mut left = from.left;
     let mut count = from.count;
     let day = plan.closing;
-    let mut alike = effect::closed_anyway(plan);
+    let mut alike = closing::closed_anyway(plan);
     while 0 < left {
         let e = old_entry(old, at);
         if below <= e.key {
@@ -161,7 +161,7 @@ fn pass_unlisted(
         }
         let keys = alike.keys;
         if !country_code::is_within(keys, e.key) {
-            alike = effect::closed_range(plan, marks, e.key);
+            alike = closing::closed_range(plan, marks, e.key);
         }
         at += book_words::ENTRY_WORDS as u32;
         left -= 1;

@@ -22,7 +22,7 @@ use Rattle.notice.specs.NoticeRule.{Notice, full, partial, replacement}
 use Rattle.notice_line.specs.declared.Line.{Line}
 use Rattle.notice.specs.declared.Summary.{Summary}
 use Rattle.history.specs.Effect.{sameCountry, namedBy, inCountry, closes}
-use Rattle.effect.specs.Closings.{isMarked, closesIn, closesBy}
+use Rattle.closing.specs.Closings.{isMarked, closesIn, closesBy}
 use Rattle.update.specs.Plans.{planOf}
 use Rattle.country_marks.specs.Marks.{marked, marksOf, noMarks, marksFor}
 use Rattle.update.proofs.PlanLaws.{Summed}

@@ -40,7 +40,7 @@ use Rattle.history.proofs.Keeping.{GoodLine, GoodLines, Good, good, effective-b
 use Rattle.history.proofs.Books.{is-word, admissible, standing-after, new-entries-sound, given-word}
 use Rattle.merge_rule.specs.Passes.{merged}
 use Rattle.effect.specs.Lines.{foundIn, raises, wantedBy, effectiveBy, changeBy, changesBy, latestBy}
-use Rattle.effect.specs.Closings.{closesBy}
+use Rattle.closing.specs.Closings.{closesBy}
 use Rattle.merge.specs.Merge.{mergedBy}
 use Rattle.update.specs.Plans.{planOf}
 use Rattle.country_marks.specs.Marks.{marksFor}

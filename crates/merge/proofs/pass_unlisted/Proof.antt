@@ -11,8 +11,8 @@ use lib.ListN.{length}
 use Rattle.book_words.specs.Layout.{entryWords, mostWords, entriesFrom}
 use Rattle.book_words.proofs.Rows.{rows-none}
 use Rattle.merge_rule.specs.Passes.{gapBelow, restFrom, unlistedAs}
-use Rattle.effect.specs.Closings.{closesBy}
-use Rattle.effect.proofs.ClosingLaws.{ClosedAlike, anyway-alike, range-alike, range-closed}
+use Rattle.closing.specs.Closings.{closesBy}
+use Rattle.closing.proofs.ClosingLaws.{ClosedAlike, anyway-alike, range-alike, range-closed}
 use Rattle.merge.proofs.Stores.{Writing, writing-all, writing-on, writing-counted, writing-end}
 use Rattle.merge.proofs.PassLaws.{next-row, gap-on, gap-stops, gap-none, rest-on, rest-stops, rest-none, at-most-two}
 use Rattle.merge.proofs.pass_unlisted.Statement.{statement}

@@ -1,8 +1,7 @@
--- `effect::closed_anyway` meets its contract. Assumes nothing.
-use Prim.Native.Nat.{_-_}
-use Rattle.effect.proofs.closed_anyway.Statement.{statement}
-use Rattle.effect.proofs.closed_anyway.Tie as tie
-use Rattle.effect.proofs.ClosingLaws.{anyway-full, anyway-update, anyway-none}
+-- `closing::closed_anyway` meets its contract. Assumes nothing.
+use Rattle.closing.proofs.closed_anyway.Statement.{statement}
+use Rattle.closing.proofs.closed_anyway.Tie as tie
+use Rattle.closing.proofs.ClosingLaws.{anyway-full, anyway-update, anyway-none}
 
 returns : tie.Need-returns
 returns c = anyway-full _ (c .if1 .taken)

@@ -12,8 +12,8 @@ use Rattle.country_code.specs.Stretches.{stretchOf}
 use Rattle.country_code.specs.declared.Country.{Country}
 use Rattle.country_code.specs.declared.Country.the-variants.{Code, None}
 use Rattle.notice.specs.NoticeRule.{full, partial, update, replacement}
-use Rattle.effect.specs.declared.ClosedRange.{ClosedRange}
+use Rattle.closing.specs.declared.ClosedRange.{ClosedRange}
 use Rattle.effect.specs.declared.Plan.{Plan}
 
 -- A country is marked by a 1 at its value.
 unfoldable pub isMarked : List ℕ → ℕ → Bool

@@ -1,10 +1,9 @@
--- `effect::closed_range` meets its contract. Assumes nothing.
-use Prim.Native.Nat.{_-_}
+-- `closing::closed_range` meets its contract. Assumes nothing.
 use borrow.Author.Needs.{needs}
 use borrow.Author.Needs.{needs}
-use Rattle.effect.proofs.closed_range.Statement.{statement}
-use Rattle.effect.proofs.closed_range.Tie as tie
-use Rattle.effect.specs.Closings.{closedRange}
+use Rattle.closing.proofs.closed_range.Statement.{statement}
+use Rattle.closing.proofs.closed_range.Tie as tie
+use Rattle.closing.specs.Closings.{closedRange}
 
 closes-requires : tie.Need-closes-requires
 closes-requires c κs = search needs

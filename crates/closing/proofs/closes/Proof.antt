@@ -1,9 +1,9 @@
--- `effect::closes` meets its contract: a return for each kind of notice. Assumes nothing.
+-- `closing::closes` meets its contract: a return for each kind of notice. Assumes nothing.
 use mathlib.Core.Path.{sym, _∙_}
 use borrow.Author.Needs.{needs}
-use Rattle.effect.proofs.ClosingLaws.{closes-all, closes-nowhere, closes-marked, closes-country, closes-none}
-use Rattle.effect.proofs.closes.Statement.{statement}
-use Rattle.effect.proofs.closes.Tie as tie
+use Rattle.closing.proofs.ClosingLaws.{closes-all, closes-nowhere, closes-marked, closes-country, closes-none}
+use Rattle.closing.proofs.closes.Statement.{statement}
+use Rattle.closing.proofs.closes.Tie as tie
 
 returns : tie.Need-returns
 returns c = closes-all _ _ _ (c .if1 .taken)

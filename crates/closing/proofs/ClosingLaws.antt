@@ -16,9 +16,9 @@ use Rattle.country_code.specs.declared.Country.the-variants.{Code, None}
 use Rattle.country_code.proofs.StretchLaws.{one-country}
 use Rattle.dial_code.proofs.Tests.{both}
 use Rattle.notice.specs.NoticeRule.{full, partial, update, replacement}
-use Rattle.effect.specs.Closings.{isMarked, closesIn, closesBy, range, closedAnyway, closedRange}
-use Rattle.effect.specs.declared.ClosedRange.{ClosedRange}
+use Rattle.closing.specs.Closings.{isMarked, closesIn, closesBy, range, closedAnyway, closedRange}
+use Rattle.closing.specs.declared.ClosedRange.{ClosedRange}
 use Rattle.effect.specs.declared.Plan.{Plan}
 
 -- Whether a country is marked.
 pub past-marks : (marks : List ℕ) (n : ℕ) → 1000 ≤ n → false ≡ isMarked marks n

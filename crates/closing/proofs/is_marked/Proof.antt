@@ -1,8 +1,8 @@
--- `effect::is_marked` meets its contract. Assumes nothing.
+-- `closing::is_marked` meets its contract. Assumes nothing.
 use borrow.Author.Needs.{needs}
-use Rattle.effect.proofs.ClosingLaws.{past-marks, at-mark}
-use Rattle.effect.proofs.is_marked.Statement.{statement}
-use Rattle.effect.proofs.is_marked.Tie as tie
+use Rattle.closing.proofs.ClosingLaws.{past-marks, at-mark}
+use Rattle.closing.proofs.is_marked.Statement.{statement}
+use Rattle.closing.proofs.is_marked.Tie as tie
 
 returns : tie.Need-returns
 returns c = past-marks _ _ (c .if1 .taken)

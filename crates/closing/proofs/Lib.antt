@@ -1,0 +1,2 @@
+-- The laws of closings.
+pub mod ClosingLaws

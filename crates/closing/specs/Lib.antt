@@ -1,0 +1,2 @@
+-- What a notice asks of the codes that it does not list, as the passes over a book work it.
+pub mod Closings
