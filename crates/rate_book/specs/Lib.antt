@@ -1,2 +1,2 @@
--- What the exported calls answer.
+-- The words of a book, and days and moments as numbers.
 pub mod Exported

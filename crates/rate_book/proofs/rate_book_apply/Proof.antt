@@ -1,6 +1,6 @@
 -- rate_book_apply meets its contract. Assumes nothing.
 use mathlib.Core.Path.{ap, _∙_}
-use Rattle.rate_book.specs.Exported.{appliedOf}
+use Rattle.answers.specs.Answers.{appliedOf}
 use borrow.Author.Needs.{needs}
 use Rattle.rate_book.proofs.rate_book_apply.Statement.{statement}
 use Rattle.rate_book.proofs.rate_book_apply.Tie as tie

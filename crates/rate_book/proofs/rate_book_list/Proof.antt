@@ -1,6 +1,6 @@
 -- rate_book_list meets its contract. Assumes nothing.
 use mathlib.Core.Path.{ap, _∙_}
-use Rattle.rate_book.specs.Exported.{listOf}
+use Rattle.answers.specs.Answers.{listOf}
 use borrow.Author.Needs.{needs}
 use Rattle.rate_book.proofs.rate_book_list.Statement.{statement}
 use Rattle.rate_book.proofs.rate_book_list.Tie as tie

@@ -1,6 +1,6 @@
 -- rate_book_lookup meets its contract. Assumes nothing.
 use mathlib.Core.Path.{ap, _∙_}
-use Rattle.rate_book.specs.Exported.{offerOf}
+use Rattle.answers.specs.Answers.{offerOf}
 use borrow.Author.Needs.{needs}
 use Rattle.rate_book.proofs.rate_book_lookup.Statement.{statement}
 use Rattle.rate_book.proofs.rate_book_lookup.Tie as tie

@@ -1,6 +1,6 @@
 -- rate_book_rate_batch meets its contract. Assumes nothing.
 use mathlib.Core.Path.{ap, _∙_}
-use Rattle.rate_book.specs.Exported.{batchOf}
+use Rattle.answers.specs.Answers.{batchOf}
 use borrow.Author.Needs.{needs}
 use Rattle.rate_book.proofs.rate_book_rate_batch.Statement.{statement}
 use Rattle.rate_book.proofs.rate_book_rate_batch.Tie as tie

@@ -1,6 +1,6 @@
 -- rate_book_rate_call meets its contract. Assumes nothing.
 use mathlib.Core.Path.{ap, _∙_}
-use Rattle.rate_book.specs.Exported.{callOf}
+use Rattle.answers.specs.Answers.{callOf}
 use borrow.Author.Needs.{needs}
 use Rattle.rate_book.proofs.rate_book_rate_call.Statement.{statement}
 use Rattle.rate_book.proofs.rate_book_rate_call.Tie as tie

@@ -1,9 +1,9 @@
 -- offer_of meets its contract, case by case. Assumes nothing.
 use mathlib.Core.Path.{ap, sym, _∙_}
-use Rattle.rate_book.specs.Exported.{offerOf}
+use Rattle.answers.specs.Answers.{offerOf}
 use borrow.Author.Needs.{needs}
-use Rattle.rate_book.proofs.offer_of.Statement.{statement}
-use Rattle.rate_book.proofs.offer_of.Tie as tie
+use Rattle.answers.proofs.offer_of.Statement.{statement}
+use Rattle.answers.proofs.offer_of.Tie as tie
 
 enum-known-found : tie.Need-enum-known-found
 enum-known-found c = search needs

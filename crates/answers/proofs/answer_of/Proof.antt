@@ -1,9 +1,9 @@
 -- answer_of meets its contract, case by case. Assumes nothing.
 use mathlib.Core.Path.{ap, sym}
-use Rattle.rate_book.specs.Exported.{answerOf}
+use Rattle.answers.specs.Answers.{answerOf}
 use borrow.Author.Needs.{needs}
-use Rattle.rate_book.proofs.answer_of.Statement.{statement}
-use Rattle.rate_book.proofs.answer_of.Tie as tie
+use Rattle.answers.proofs.answer_of.Statement.{statement}
+use Rattle.answers.proofs.answer_of.Tie as tie
 
 enum-told : tie.Need-enum-told
 enum-told c = search needs

@@ -1,0 +1,2 @@
+-- What the exported calls answer, as structs of numbers.
+pub mod Answers
