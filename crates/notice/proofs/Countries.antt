@@ -21,10 +21,10 @@ use Rattle.dial_code.specs.declared.Keyed.the-variants as keyed
 use Rattle.dial_code.proofs.Tests.{both, and-left-true, same-eqb, below, equal, above, order}
 use Rattle.dial_code.proofs.DigitLaws.{digits-are, value-digits, value-below, number-facts, no-digits, zero-first}
 use Rattle.country_code.proofs.CountryLaws.{country-of-key}
-use Rattle.notice_line.specs.LineRule.{isCountry}
+use Rattle.line_code.specs.CodeRule.{isCountry}
 use Rattle.notice.specs.NoticeRule.{isCountryCode, countryField}
 use Rattle.varint.proofs.Links.{yes-case, no-case}
-use Rattle.notice_line.proofs.Codes.{key-test, few, has-key, has-none}
+use Rattle.line_code.proofs.Codes.{key-test, few, has-key, has-none}
 
 code-opens : (ds : List ℕ) → isCode ds ≡ (isNumber ds && leb (countryDigits ds) (length ds))
 unfolding isCode

@@ -18,7 +18,9 @@ use Rattle.rate.specs.Time.{lastDay, lastReceivedDay}
 use Rattle.rate.specs.Price.{rate, priceOf}
 use Rattle.rate.specs.declared.Offer.the-variants.{Open}
 use Rattle.varint.specs.Ranged.{andThen, readRanged}
-use Rattle.notice_line.specs.LineRule.{lineOf, codeField, readCode, readIncrements, readRate, readTerms, listedField, listedDay, readListed, readLine}
+use Rattle.line_terms.specs.TermsRule.{readIncrements, readRate, readTerms}
+use Rattle.line_code.specs.CodeRule.{codeField, readCode}
+use Rattle.notice_line.specs.LineRule.{lineOf, listedField, listedDay, readListed, readLine}
 use Rattle.notice_line.specs.declared.Line.{Line}
 use Rattle.notice_line.specs.declared.LineRead.{LineRead}
 use Rattle.notice_line.specs.declared.LineRead.the-variants as line

@@ -21,7 +21,7 @@ fn country_field(count: u64, value: u64, end: usize) -> Number
             if !country_code::is_code_key(key) {
                 return Number::Refused(refusal::CODE_NOT_ALLOWED);
             }
-            if notice_line::lies_in(key, value) {
+            if line_code::lies_in(key, value) {
                 return Number::Value(value, end);
             }
             Number::Refused(refusal::CODE_NOT_ALLOWED)

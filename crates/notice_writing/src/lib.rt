@@ -101,11 +101,11 @@ pub fn write_line(out: &mut [u8], at: usize, line: Line) -> Written
     let offer = line.offer;
     match offer {
         Offer::Closed => {
-            let fields = [code.count, code.value, notice_line::DELETES, listed];
+            let fields = [code.count, code.value, line_terms::DELETES, listed];
             varint_writing::write_numbers(out, at, &fields)
         }
         Offer::Blocked => {
-            let fields = [code.count, code.value, notice_line::BLOCKS, listed];
+            let fields = [code.count, code.value, line_terms::BLOCKS, listed];
             varint_writing::write_numbers(out, at, &fields)
         }
         Offer::Open { rate, first, next } => {
@@ -113,7 +113,7 @@ pub fn write_line(out: &mut [u8], at: usize, line: Line) -> Written
             let fields = [
                 code.count,
                 code.value,
-                notice_line::HAS_RATE,
+                line_terms::HAS_RATE,
                 SENT_DECIMALS,
                 price,
                 first as u64,

@@ -5,7 +5,7 @@ use borrow.Author.Needs.{needs}
 use borrow.Author.Tests.{not-true, not-false}
 use Rattle.varint.proofs.Links.{yes-case, no-case}
 use Rattle.varint.specs.declared.Number.the-variants.{Value, Refused}
-use Rattle.notice_line.specs.LineRule.{isCountry}
+use Rattle.line_code.specs.CodeRule.{isCountry}
 use Rattle.notice.specs.NoticeRule.{countryField}
 use Rattle.country_code.specs.CountryCode.{countryOfKey}
 use Rattle.country_code.specs.Code.{isCodeKey}

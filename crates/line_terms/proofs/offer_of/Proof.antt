@@ -1,10 +1,10 @@
--- `notice_line::offer_of` meets its contract: a return for each case of the price. Assumes nothing.
+-- `line_terms::offer_of` meets its contract: a return for each case of the price. Assumes nothing.
 use mathlib.Core.Path.{ap, sym, _∙_}
 use borrow.Author.Needs.{needs}
-use Rattle.notice_line.specs.LineRule.{offered}
+use Rattle.line_terms.specs.TermsRule.{offered}
 use Rattle.rate.specs.declared.Priced.{Priced}
-use Rattle.notice_line.proofs.pricing.offer_of.Statement.{statement}
-use Rattle.notice_line.proofs.pricing.offer_of.Tie as tie
+use Rattle.line_terms.proofs.offer_of.Statement.{statement}
+use Rattle.line_terms.proofs.offer_of.Tie as tie
 
 new-requires : tie.Need-new-requires
 new-requires c κs = search needs

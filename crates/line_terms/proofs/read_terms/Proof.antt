@@ -1,13 +1,13 @@
--- `notice_line::read_terms` meets its contract: a return for each status. Assumes nothing.
+-- `line_terms::read_terms` meets its contract: a return for each status. Assumes nothing.
 use mathlib.Core.Path.{_≡_, sym, _∙_}
 use borrow.Author.Needs.{needs}
 use borrow.Author.Tests.{eq-eqb, ne-eqb}
 use Rattle.varint.proofs.Links.{on-value, on-refused, yes-case, no-case}
 use Rattle.varint.specs.declared.Number.the-variants.{Value}
 use Rattle.varint.specs.Reading.{readNumber}
-use Rattle.notice_line.specs.LineRule.{readTerms}
-use Rattle.notice_line.proofs.pricing.read_terms.Statement.{statement}
-use Rattle.notice_line.proofs.pricing.read_terms.Tie as tie
+use Rattle.line_terms.specs.TermsRule.{readTerms}
+use Rattle.line_terms.proofs.read_terms.Statement.{statement}
+use Rattle.line_terms.proofs.read_terms.Tie as tie
 
 status-read : (c : tie.After-status) →
     let a = c .before .before .before .before .args in

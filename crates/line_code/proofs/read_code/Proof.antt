@@ -1,13 +1,13 @@
--- `notice_line::read_code` meets its contract: a count that is read is 1 to 15, which the value field asks for. Assumes nothing.
+-- `line_code::read_code` meets its contract: a count that is read is 1 to 15, which the value field asks for. Assumes nothing.
 use mathlib.Core.Path.{_≡_, sym, _∙_}
 use borrow.Author.Needs.{needs}
 use Rattle.varint.proofs.Links.{on-value, on-refused}
 use Rattle.varint.specs.declared.Number.the-variants.{Value}
 use Rattle.varint.specs.Ranged.{readRanged}
-use Rattle.notice_line.specs.LineRule.{readCode}
+use Rattle.line_code.specs.CodeRule.{readCode}
 use Rattle.varint.proofs.Told.{ranged-facts}
-use Rattle.notice_line.proofs.read_code.Statement.{statement}
-use Rattle.notice_line.proofs.read_code.Tie as tie
+use Rattle.line_code.proofs.read_code.Statement.{statement}
+use Rattle.line_code.proofs.read_code.Tie as tie
 
 count-read : (c : tie.After-count) →
     let a = c .before .before .before .before .args in

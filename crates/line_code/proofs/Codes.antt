@@ -21,7 +21,7 @@ use Rattle.dial_code.proofs.CountedKeys.{large, sent}
 use Rattle.country_code.proofs.CountryLaws.{country-of-key}
 use Rattle.dial_code.proofs.SentNumbers.{code-test}
 use Rattle.country_code.proofs.SentCodes.{sent-test}
-use Rattle.notice_line.specs.LineRule.{isCountry, codeField}
+use Rattle.line_code.specs.CodeRule.{isCountry, codeField}
 use Rattle.varint.proofs.Links.{yes-case, no-case}
 
 key-opens : (w : ℕ) → isCodeKey w ≡ (eqb (key (digitsOfKey w)) w && isCode (digitsOfKey w))

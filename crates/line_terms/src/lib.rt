@@ -2,14 +2,26 @@
 ghost use mathlib.Core.Path.{_≡_};
 ghost use Prim.Native.Nat.{_≤_};
 ghost use Rattle.rate.specs.Price.{priceOf};
-ghost use Rattle.notice_line.specs.LineRule.{offered, readIncrements, readRate, readTerms};
-use crate::Terms;
+ghost use Rattle.line_terms.specs.TermsRule.{offered, readIncrements, readRate, readTerms};
 use rate::Offer;
 use rate::Priced;
 use rate::Rate;
 use varint::Number;
 
+// A line's status.
+pub const DELETES: u64 = 0;
+
+pub const BLOCKS: u64 = 1;
+
+pub const HAS_RATE: u64 = 2;
+
 const MOST_SECONDS: u64 = 255;
+
+// What a line's status and rate offer, with the position after them.
+pub enum Terms {
+    Offered(Offer, usize),
+    Refused(u64),
+}
 
 // The offer of a rate and its increments: above the dearest open rate it is a block.
 fn offer_of(mantissa: u64, decimals: u64, first: u64, next: u64) -> Offer
@@ -74,13 +86,13 @@ pub fn read_terms(s: &[u8], at: usize) -> Terms
     match varint::read_field(s, at) {
         Number::Refused(e) => Terms::Refused(e),
         Number::Value(status, next) => {
-            if status == crate::DELETES {
+            if status == DELETES {
                 return Terms::Offered(Offer::Closed, next);
             }
-            if status == crate::BLOCKS {
+            if status == BLOCKS {
                 return Terms::Offered(Offer::Blocked, next);
             }
-            if status == crate::HAS_RATE {
+            if status == HAS_RATE {
                 return read_rate(s, next);
             }
             Terms::Refused(refusal::UNKNOWN_KIND)

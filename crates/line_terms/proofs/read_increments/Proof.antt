@@ -1,15 +1,15 @@
--- `notice_line::read_increments` meets its contract: increments that are read are at most 255, so both fit a byte. Assumes nothing.
+-- `line_terms::read_increments` meets its contract: increments that are read are at most 255, so both fit a byte. Assumes nothing.
 use mathlib.Core.Path.{_≡_, ap, sym, _∙_}
 use borrow.Author.Needs.{needs}
 use Rattle.varint.proofs.Links.{on-value, on-refused}
 use Rattle.varint.specs.declared.Number.the-variants.{Value}
 use Rattle.varint.specs.Ranged.{readRanged}
-use Rattle.notice_line.specs.LineRule.{readIncrements}
+use Rattle.line_terms.specs.TermsRule.{readIncrements}
 use Rattle.varint.proofs.Told.{ranged-facts}
 use Rattle.rate.specs.declared.Offer.{Offer}
-use Rattle.notice_line.specs.declared.Terms.the-variants as terms
-use Rattle.notice_line.proofs.pricing.read_increments.Statement.{statement}
-use Rattle.notice_line.proofs.pricing.read_increments.Tie as tie
+use Rattle.line_terms.specs.declared.Terms.the-variants as terms
+use Rattle.line_terms.proofs.read_increments.Statement.{statement}
+use Rattle.line_terms.proofs.read_increments.Tie as tie
 
 first-read : (c : tie.After-first) →
     let a = c .before .before .before .before .args in

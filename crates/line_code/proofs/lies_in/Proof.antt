@@ -1,10 +1,10 @@
--- `notice_line::lies_in` meets its contract. Assumes nothing.
+-- `line_code::lies_in` meets its contract. Assumes nothing.
 use mathlib.Core.Path.{ap, sym, _∙_}
 use borrow.Author.Needs.{needs}
-use Rattle.notice_line.specs.LineRule.{isCountry}
+use Rattle.line_code.specs.CodeRule.{isCountry}
 use Rattle.country_code.specs.declared.Country.{Country}
-use Rattle.notice_line.proofs.lies_in.Statement.{statement}
-use Rattle.notice_line.proofs.lies_in.Tie as tie
+use Rattle.line_code.proofs.lies_in.Statement.{statement}
+use Rattle.line_code.proofs.lies_in.Tie as tie
 
 country-of-key-requires : tie.Need-country-of-key-requires
 country-of-key-requires c κs = search needs

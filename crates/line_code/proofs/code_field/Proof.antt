@@ -1,17 +1,17 @@
--- `notice_line::code_field` meets its contract: a return for each test of the rule. Assumes nothing.
+-- `line_code::code_field` meets its contract: a return for each test of the rule. Assumes nothing.
 use mathlib.Core.Path.{_≡_, sym, _∙_}
 use mathlib.Core.Bool.{true, cond, _||_}
 use borrow.Author.Needs.{needs}
 use borrow.Author.Tests.{lt-ltb, le-ltb, eq-eqb, ne-eqb}
 use lib.Dec.{eqb, ltb}
 use Rattle.varint.proofs.Links.{yes-case, no-case}
-use Rattle.notice_line.proofs.Links.{or-left, or-right}
+use Rattle.line_code.proofs.Links.{or-left, or-right}
 use Rattle.varint.specs.declared.Number.the-variants.{Value, Refused}
-use Rattle.notice_line.specs.LineRule.{isCountry, codeField}
+use Rattle.line_code.specs.CodeRule.{isCountry, codeField}
 use Rattle.country_code.specs.CountryCode.{countryOfKey}
-use Rattle.notice_line.proofs.Codes.{sent-code-tests, sent-code-refused}
-use Rattle.notice_line.proofs.code_field.Statement.{statement}
-use Rattle.notice_line.proofs.code_field.Tie as tie
+use Rattle.line_code.proofs.Codes.{sent-code-tests, sent-code-refused}
+use Rattle.line_code.proofs.code_field.Statement.{statement}
+use Rattle.line_code.proofs.code_field.Tie as tie
 
 -- the rule by the tests of the code
 tests : (c : tie.After-key) →

@@ -1,12 +1,12 @@
--- `notice_line::read_rate` meets its contract. Assumes nothing.
+-- `line_terms::read_rate` meets its contract. Assumes nothing.
 use mathlib.Core.Path.{_≡_, sym, _∙_}
 use borrow.Author.Needs.{needs}
 use Rattle.varint.proofs.Links.{on-value, on-refused}
 use Rattle.varint.specs.declared.Number.the-variants.{Value}
 use Rattle.varint.specs.Ranged.{readRanged}
-use Rattle.notice_line.specs.LineRule.{readRate}
-use Rattle.notice_line.proofs.pricing.read_rate.Statement.{statement}
-use Rattle.notice_line.proofs.pricing.read_rate.Tie as tie
+use Rattle.line_terms.specs.TermsRule.{readRate}
+use Rattle.line_terms.proofs.read_rate.Statement.{statement}
+use Rattle.line_terms.proofs.read_rate.Tie as tie
 
 decimals-read : (c : tie.After-decimals) →
     let a = c .before .before .before .before .args in
