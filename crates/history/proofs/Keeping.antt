@@ -12,7 +12,8 @@ use Rattle.rate.specs.OfferWord.{inRange}
 use Rattle.rate.specs.declared.Offer.{Offer}
 use Rattle.rate.specs.declared.Offer.the-variants.{Closed}
 use Rattle.rate.specs.Time.{lastDay, lastReceivedDay}
-use Rattle.notice.specs.NoticeRule.{Notice, notice, readNotice, replacement}
+use Rattle.notice_header.specs.HeaderRule.{replacement}
+use Rattle.notice.specs.NoticeRule.{Notice, notice, readNotice}
 use Rattle.book_words.specs.Layout.{mostPeriod}
 use Rattle.notice_line.specs.declared.Line.{Line}
 use Rattle.notice.proofs.LinesLaws.{ValidFrom}

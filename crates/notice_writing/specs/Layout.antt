@@ -19,7 +19,7 @@ use Rattle.varint.specs.Ranged.{readRanged}
 use Rattle.line_terms.specs.TermsRule.{deletes, blocks, hasRate, readIncrements, readRate, readTerms}
 use Rattle.line_code.specs.CodeRule.{codeField, readCode}
 use Rattle.notice_line.specs.LineRule.{lineOf, listedField, readListed, readLine}
-use Rattle.notice.specs.NoticeRule.{replacement, isCountryCode, readCountry, readNamed, readDated, readHeader}
+use Rattle.notice_header.specs.HeaderRule.{replacement, isCountryCode, readCountry, readNamed, readDated, readHeader}
 use Rattle.notice.specs.NoticeRule.{readLines, Notice, notice, readNotice}
 use Rattle.notice_line.specs.declared.Line.{Line}
 

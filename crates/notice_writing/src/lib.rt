@@ -34,7 +34,7 @@ fn header_fields(kind: u64, received: u64, country: u64, lines: u64) -> Fields
     ensures { λ r. ⌜ r .count ≤ length (r .numbers) ⌝ }
     ensures { λ r. ⌜ take (r .count) (r .numbers) ≡ headerFields kind received country lines ⌝ }
 {
-    if kind == notice::REPLACEMENT {
+    if kind == notice_header::REPLACEMENT {
         let digits = country_count(country);
         return Fields {
             numbers: [kind, received, digits, country, lines],

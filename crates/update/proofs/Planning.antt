@@ -10,7 +10,7 @@ use lib.Seq.{set-out}
 use Rattle.country_code.specs.CountryCode.{countryOfKey}
 use Rattle.country_code.specs.declared.Country.{Country}
 use Rattle.country_code.specs.declared.Country.the-variants.{Code, None}
-use Rattle.notice.specs.NoticeRule.{partial, replacement}
+use Rattle.notice_header.specs.HeaderRule.{partial, replacement}
 use Rattle.notice_line.specs.declared.Line.{Line}
 use Rattle.notice.specs.declared.Summary.{Summary}
 use Rattle.update.specs.Plans.{earliestWanted, planOf, marked, marksOf, noMarks, marksFor}

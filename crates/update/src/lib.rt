@@ -7,7 +7,8 @@ ghost use lib.Dec.{leb};
 ghost use lib.ListN.{length};
 ghost use Rattle.country_code.specs.CountryCode.{countryOfKey};
 ghost use Rattle.rate.specs.Time.{lastReceivedDay};
-ghost use Rattle.notice.specs.NoticeRule.{mostLines, checkNotice};
+ghost use Rattle.notice_header.specs.HeaderRule.{mostLines};
+ghost use Rattle.notice.specs.NoticeRule.{checkNotice};
 ghost use Rattle.notice.specs.declared.Checked.the-variants.{Notice};
 ghost use Rattle.book_words.specs.Layout.{headerWords, entryWords, mostPeriod, held, bookOf, periodOf, latestOf};
 ghost use Rattle.book.specs.Soundness.{sound};
@@ -86,7 +87,7 @@ fn plan_of(m: Summary, period: u64, latest: u64) -> Plan
 {
     let floor = m.received + period;
     let wanted = effect::later(m.received, m.earliest);
-    if m.kind == notice::REPLACEMENT {
+    if m.kind == notice_header::REPLACEMENT {
         return Plan {
             kind: m.kind,
             country: m.country,
@@ -145,7 +146,7 @@ fn marks_for(notice: &[u8], m: Summary) -> [u8; 1000]
     ensures { λ r. ⌜ r ≡ marksFor (m .kind) (linesAt (m .lines) (now (notice .entry)) (m .start)) ⌝ }
 {
     let mut marks = [0u8; 1000];
-    if m.kind == notice::PARTIAL {
+    if m.kind == notice_header::PARTIAL {
         mark_lines(notice, m.start, m.lines, &mut marks);
     }
     marks

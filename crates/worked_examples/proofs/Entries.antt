@@ -19,7 +19,8 @@ use Rattle.varint.specs.Ranged.{readRanged}
 use Rattle.line_terms.specs.TermsRule.{readIncrements, readRate, readTerms}
 use Rattle.line_code.specs.CodeRule.{codeField, readCode}
 use Rattle.notice_line.specs.LineRule.{lineOf, listedField, readListed, readLine}
-use Rattle.notice.specs.NoticeRule.{Notice, notice, isCountryCode, readCountry, readNamed, readDated, readHeader}
+use Rattle.notice_header.specs.HeaderRule.{isCountryCode, readCountry, readNamed, readDated, readHeader}
+use Rattle.notice.specs.NoticeRule.{Notice, notice}
 use Rattle.notice.specs.NoticeRule.{readLines, readNotice}
 use Rattle.notice_line.specs.declared.Line.{Line}
 use Rattle.book_words.specs.Layout.{entry}

@@ -1,13 +1,13 @@
--- `notice::leading::dated_by` meets its contract. Assumes nothing.
+-- `notice_header::dated_by` meets its contract. Assumes nothing.
 use mathlib.Core.Path.{_≡_, sym, _∙_}
 use borrow.Author.Needs.{needs}
 use borrow.Author.Tests.{eq-eqb, ne-eqb}
 use Rattle.varint.proofs.Links.{on-value, on-refused, yes-case, no-case}
 use Rattle.varint.specs.declared.Number.the-variants.{Value}
 use Rattle.varint.specs.Ranged.{inRange}
-use Rattle.notice.specs.Leading.{datedBy}
-use Rattle.notice.proofs.leading.dated_by.Statement.{statement}
-use Rattle.notice.proofs.leading.dated_by.Tie as tie
+use Rattle.notice_header.specs.Leading.{datedBy}
+use Rattle.notice_header.proofs.dated_by.Statement.{statement}
+use Rattle.notice_header.proofs.dated_by.Tie as tie
 
 day-read : (c : tie.After-day)
     → inRange (c .before .before .before .args .received) 0 60000 ≡ Value (c .day .given .0 .0) (c .day .given .0 .1 .0)

@@ -10,10 +10,10 @@ use Rattle.varint.specs.declared.Number.{Number}
 use Rattle.varint.specs.declared.Number.the-variants.{Value, Refused}
 use Rattle.dial_code.specs.Digits.{digits}
 use Rattle.varint.specs.Ranged.{andThen, inRange, readRanged}
-use Rattle.notice.specs.NoticeRule.{isCountryCode, countryField, readCountry, readNamed, readDated, readHeader}
-use Rattle.notice.specs.Leading.{countryBy, linesBy, datedBy, headerBy}
-use Rattle.notice.specs.declared.HeaderRead.{HeaderRead}
-use Rattle.notice.specs.declared.HeaderRead.the-variants as header
+use Rattle.notice_header.specs.HeaderRule.{isCountryCode, countryField, readCountry, readNamed, readDated, readHeader}
+use Rattle.notice_header.specs.Leading.{countryBy, linesBy, datedBy, headerBy}
+use Rattle.notice_header.specs.declared.HeaderRead.{HeaderRead}
+use Rattle.notice_header.specs.declared.HeaderRead.the-variants as header
 use Rattle.varint.proofs.Links.{either}
 
 -- The number that a reader gives, and the place where it stands then.

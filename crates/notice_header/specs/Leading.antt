@@ -1,5 +1,5 @@
 -- The fields before the lines, from numbers that a reader gave one by one. A model of the code and no rule: it stands here so
--- that the contracts of the private functions can cite it. The promise is readHeader (NoticeRule.antt), to which it is proved
+-- that the contracts of the private functions can cite it. The promise is readHeader (HeaderRule.antt), to which it is proved
 -- equal.
 use mathlib.Core.Bool.{cond, _&&_}
 use Prim.Native.Nat.{ℕ}
@@ -10,9 +10,9 @@ use Rattle.varint.specs.declared.Number.the-variants.{Refused}
 use Rattle.dial_code.specs.Digits.{mostDigits}
 use Rattle.rate.specs.Time.{lastReceivedDay}
 use Rattle.varint.specs.Ranged.{andThen, inRange}
-use Rattle.notice.specs.NoticeRule.{mostLines, full, replacement, countryField, headerOf}
-use Rattle.notice.specs.declared.HeaderRead.{HeaderRead}
-use Rattle.notice.specs.declared.HeaderRead.the-variants as header
+use Rattle.notice_header.specs.HeaderRule.{mostLines, full, replacement, countryField, headerOf}
+use Rattle.notice_header.specs.declared.HeaderRead.{HeaderRead}
+use Rattle.notice_header.specs.declared.HeaderRead.the-variants as header
 
 -- A replacement's country, by its digit count and its value.
 abbrev pub countryBy : Number → Number → Number

@@ -22,7 +22,7 @@ use Rattle.dial_code.proofs.Tests.{both, and-left-true, same-eqb, below, equal,
 use Rattle.dial_code.proofs.DigitLaws.{digits-are, value-digits, value-below, number-facts, no-digits, zero-first}
 use Rattle.country_code.proofs.CountryLaws.{country-of-key}
 use Rattle.line_code.specs.CodeRule.{isCountry}
-use Rattle.notice.specs.NoticeRule.{isCountryCode, countryField}
+use Rattle.notice_header.specs.HeaderRule.{isCountryCode, countryField}
 use Rattle.varint.proofs.Links.{yes-case, no-case}
 use Rattle.line_code.proofs.Codes.{key-test, few, has-key, has-none}
 

@@ -14,11 +14,11 @@ use Rattle.varint.specs.declared.Number.the-variants.{Value, Refused}
 use Rattle.dial_code.specs.Digits.{digits}
 use Rattle.dial_code.proofs.Tests.{both}
 use Rattle.varint.specs.Ranged.{readRanged}
-use Rattle.notice.specs.NoticeRule.{isCountryCode, readCountry, readNamed, readDated, readHeader}
-use Rattle.notice.specs.declared.Header.{Header}
-use Rattle.notice.specs.declared.HeaderRead.{HeaderRead}
-use Rattle.notice.specs.declared.HeaderRead.the-variants as header
-use Rattle.notice.proofs.Countries.{country-some}
+use Rattle.notice_header.specs.HeaderRule.{isCountryCode, readCountry, readNamed, readDated, readHeader}
+use Rattle.notice_header.specs.declared.Header.{Header}
+use Rattle.notice_header.specs.declared.HeaderRead.{HeaderRead}
+use Rattle.notice_header.specs.declared.HeaderRead.the-variants as header
+use Rattle.notice_header.proofs.Countries.{country-some}
 use Rattle.varint.proofs.Told.{Known, Told, then-told, Spans, number-told, Ranged, ranged-told}
 use Rattle.varint.proofs.Links.{either}
 

@@ -1,9 +1,9 @@
--- `notice::leading::lines_by` meets its contract. Assumes nothing.
+-- `notice_header::lines_by` meets its contract. Assumes nothing.
 use mathlib.Core.Path.{sym, _∙_}
 use borrow.Author.Needs.{needs}
 use Rattle.varint.proofs.Links.{on-value, on-refused}
-use Rattle.notice.proofs.leading.lines_by.Statement.{statement}
-use Rattle.notice.proofs.leading.lines_by.Tie as tie
+use Rattle.notice_header.proofs.lines_by.Statement.{statement}
+use Rattle.notice_header.proofs.lines_by.Tie as tie
 
 in-range-requires : tie.Need-in-range-requires
 in-range-requires c κs = search needs

@@ -1,12 +1,12 @@
--- `notice::leading::header_by` meets its contract. Assumes nothing.
+-- `notice_header::header_by` meets its contract. Assumes nothing.
 use mathlib.Core.Path.{sym, _∙_}
 use borrow.Author.Needs.{needs}
 use borrow.Author.Tests.{le-leb, lt-leb}
 use Rattle.varint.proofs.Links.{on-value, on-refused, yes-case, no-case}
 use Rattle.dial_code.proofs.Tests.{and-left-true, and-left-false}
-use Rattle.notice.specs.Leading.{headerBy}
-use Rattle.notice.proofs.leading.header_by.Statement.{statement}
-use Rattle.notice.proofs.leading.header_by.Tie as tie
+use Rattle.notice_header.specs.Leading.{headerBy}
+use Rattle.notice_header.proofs.header_by.Statement.{statement}
+use Rattle.notice_header.proofs.header_by.Tie as tie
 
 enum-known-kind : tie.Need-enum-known-kind
 enum-known-kind c = search needs

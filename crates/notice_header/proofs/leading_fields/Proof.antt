@@ -1,4 +1,4 @@
--- `notice::leading::leading_fields` meets its contract: a walk of its MIR, by hand. A reader is made of the notice and held in
+-- `notice_header::leading_fields` meets its contract: a walk of its MIR, by hand. A reader is made of the notice and held in
 -- a local, and gives five numbers; `header_by` judges them. All that the proof knows of each is that it meets its contract.
 -- Assumes nothing.
 use mathlib.Core.Path.{_≡_, refl, _∙_}
@@ -53,20 +53,20 @@ use Rattle.varint.proofs.reader.Reader.new.Met as new-thm
 use Rattle.varint.proofs.reader.Reader.next.Symbol as next-def
 use Rattle.varint.proofs.reader.Reader.next.Symbol.{name as #varint·reader·Reader·next}
 use Rattle.varint.proofs.reader.Reader.next.Met as next-thm
-use Rattle.notice.specs.NoticeRule.{readHeader}
-use Rattle.notice.specs.Leading.{headerBy}
-use Rattle.notice.specs.declared.HeaderRead.{HeaderRead}
-use Rattle.notice.proofs.LeadingLaws.{header-read}
-use Rattle.notice.proofs.HeaderRead as F
-use Rattle.notice.proofs.HeaderRead.Laws as F′
-use Rattle.notice.proofs.leading.header_by as header-by
-use Rattle.notice.proofs.leading.header_by.Symbol as header-by-def
-use Rattle.notice.proofs.leading.header_by.Symbol.{name as #notice·leading·header-by}
-use Rattle.notice.proofs.leading.header_by.Met as header-by-thm
-use Rattle.notice.proofs.leading.leading_fields.Key.{name as #notice·leading·leading-fields}
-use Rattle.notice.proofs.leading.leading_fields as leads
-use Rattle.notice.proofs.leading.leading_fields.Statement as stated
-use Rattle.notice.proofs.leading.leading_fields.Code as code
+use Rattle.notice_header.specs.HeaderRule.{readHeader}
+use Rattle.notice_header.specs.Leading.{headerBy}
+use Rattle.notice_header.specs.declared.HeaderRead.{HeaderRead}
+use Rattle.notice_header.proofs.LeadingLaws.{header-read}
+use Rattle.notice_header.proofs.HeaderRead as F
+use Rattle.notice_header.proofs.HeaderRead.Laws as F′
+use Rattle.notice_header.proofs.header_by as header-by
+use Rattle.notice_header.proofs.header_by.Symbol as header-by-def
+use Rattle.notice_header.proofs.header_by.Symbol.{name as #notice-header·header-by}
+use Rattle.notice_header.proofs.header_by.Met as header-by-thm
+use Rattle.notice_header.proofs.leading_fields.Key.{name as #notice-header·leading-fields}
+use Rattle.notice_header.proofs.leading_fields as leads
+use Rattle.notice_header.proofs.leading_fields.Statement as stated
+use Rattle.notice_header.proofs.leading_fields.Code as code
 
 abbrev stayed : Stays (leads.ended .signature .params) (leads.ended .kept)
 stayed = (stay-none-slice (0 ∷ []) tt (plain (λ _. u8)) yes, tt)
@@ -166,7 +166,7 @@ module _ {M : Type 1} (𝓤 : URA M) (H : Heap 𝓤) (A : Atoms 𝓤) (W : Given
   module _ (C : Calls 𝓤 H) (Λ : Loops 𝓤 H) (fm : FmC 𝓤 H (W .laws) C)
       (known-new : Triple 𝓤 (C #varint·reader·Reader·new) (New 𝓤 H A mem run))
       (known-next : Triple 𝓤 (C #varint·reader·Reader·next) (Next 𝓤 H A mem run))
-      (known-judge : Triple 𝓤 (C #notice·leading·header-by) (Judge 𝓤 H A mem run)) where
+      (known-judge : Triple 𝓤 (C #notice-header·header-by) (Judge 𝓤 H A mem run)) where
     walk : Is (ShrSlice (named 0) κ u8) s (v ∷ []) → ent 𝓤 (onEntry 𝓤 H A leads.signature (κ, tt) (q, tt) (s, tt) (v ∷ [], tt))
         (WpFn 𝓤 H C Λ code.function (v ∷ []) Post)
     walk p =
@@ -241,7 +241,7 @@ module _ {M : Type 1} (𝓤 : URA M) (H : Heap 𝓤) (A : Atoms 𝓤) (W : Given
   where
     leads-walks : (C : Calls 𝓤 H) (Λ : Loops 𝓤 H) → FmC 𝓤 H (W .laws) C → Triple 𝓤 (C #varint·reader·Reader·new)
         (New 𝓤 H A mem run) → Triple 𝓤 (C #varint·reader·Reader·next) (Next 𝓤 H A mem run) → Triple 𝓤
-        (C #notice·leading·header-by) (Judge 𝓤 H A mem run)
+        (C #notice-header·header-by) (Judge 𝓤 H A mem run)
         → Walks 𝓤 H A leads.ended stayed (WpFn 𝓤 H C Λ code.function) (leads.clauses 𝓤 H A mem run)
     leads-walks C Λ fm known-new known-next known-judge = walked 𝓤 H A leads.ended stayed (leads.clauses 𝓤 H A mem run)
         (WpFn 𝓤 H C Λ code.function) (λ κs. (slice-vals, tt)) (λ κs. (shr-slice-tells (named 0) (κs .0) u8, tt))
@@ -251,7 +251,7 @@ module _ {M : Type 1} (𝓤 : URA M) (H : Heap 𝓤) (A : Atoms 𝓤) (W : Given
 leads-meets : {M : Type 1} (𝓤 : URA M) (H : Heap 𝓤) (A : Atoms 𝓤) (W : Given 𝓤 H A) (mem : Memory → SProp 𝓤)
     (run : Routine → Fun 𝓤) (𝓣 : Tables 𝓤 H)
     → Triple 𝓤 (𝓣 .C #varint·reader·Reader·new) (New 𝓤 H A mem run) → Triple 𝓤 (𝓣 .C #varint·reader·Reader·next)
-    (Next 𝓤 H A mem run) → Triple 𝓤 (𝓣 .C #notice·leading·header-by) (Judge 𝓤 H A mem run)
+    (Next 𝓤 H A mem run) → Triple 𝓤 (𝓣 .C #notice-header·header-by) (Judge 𝓤 H A mem run)
     → Meets 𝓤 H A leads.signature (WpFn 𝓤 H (𝓣 .C) (𝓣 .Λ) code.function) (leads.spec 𝓤 H A mem run)
 leads-meets 𝓤 H A W mem run 𝓣 known-new known-next known-judge = walk-meets 𝓤 H A leads.ended stayed W
     (goes-none-slice 𝓤 H A W 1 (0 ∷ []) tt (plain (λ _. u8)) yes, tt) (leads.clauses 𝓤 H A mem run)
@@ -262,12 +262,12 @@ pub leading-fields-spec : {M : Type 1} → stated.statement M
 unfolding code.routine tablesOf
 leading-fields-spec 𝓤 H 𝓜 𝓖 𝓡 =
     entered 𝓤 H (tripleOf 𝓤 H (𝓖 .A) leads.signature (leads.spec 𝓤 H (𝓖 .A) (𝓜 .mem) (𝓡 .run)))
-    (tables 𝓤 H 𝓜 𝓡 code.env .C) (tables 𝓤 H 𝓜 𝓡 code.env .Λ) #notice·leading·leading-fields code.function
+    (tables 𝓤 H 𝓜 𝓡 code.env .C) (tables 𝓤 H 𝓜 𝓡 code.env .Λ) #notice-header·leading-fields code.function
     (code.unfolded 𝓤 H 𝓜 𝓡)
     (leads-meets 𝓤 H (𝓖 .A) (givenOf 𝓤 H 𝓜 𝓖) (𝓜 .mem) (𝓡 .run) (tablesOf 𝓤 H 𝓜 (tables 𝓤 H 𝓜 𝓡 code.env))
     (cited 𝓤 H (New 𝓤 H (𝓖 .A) (𝓜 .mem) (𝓡 .run)) 𝓜 𝓡 code.env #varint·reader·Reader·new new-def.routine
     code.calls-varint·reader·Reader·new (new-thm.met 𝓤 H 𝓜 𝓖 𝓡))
     (cited 𝓤 H (Next 𝓤 H (𝓖 .A) (𝓜 .mem) (𝓡 .run)) 𝓜 𝓡 code.env #varint·reader·Reader·next next-def.routine
     code.calls-varint·reader·Reader·next (next-thm.met 𝓤 H 𝓜 𝓖 𝓡))
-    (cited 𝓤 H (Judge 𝓤 H (𝓖 .A) (𝓜 .mem) (𝓡 .run)) 𝓜 𝓡 code.env #notice·leading·header-by header-by-def.routine
-    code.calls-notice·leading·header-by (header-by-thm.met 𝓤 H 𝓜 𝓖 𝓡)))
+    (cited 𝓤 H (Judge 𝓤 H (𝓖 .A) (𝓜 .mem) (𝓡 .run)) 𝓜 𝓡 code.env #notice-header·header-by header-by-def.routine
+    code.calls-notice-header·header-by (header-by-thm.met 𝓤 H 𝓜 𝓖 𝓡)))

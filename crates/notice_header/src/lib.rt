@@ -1,14 +1,38 @@
 // A notice's leading fields (document 01, "Notice layout"), read through a reader that gives its numbers one by one.
 ghost use mathlib.Core.Path.{_≡_};
 ghost use Prim.Native.Nat.{_≤_};
-ghost use Rattle.notice.specs.NoticeRule.{countryField, readHeader};
-ghost use Rattle.notice.specs.Leading.{countryBy, linesBy, datedBy, headerBy};
-use crate::Header;
-use crate::HeaderRead;
+ghost use Rattle.notice_header.specs.HeaderRule.{countryField, readHeader};
+ghost use Rattle.notice_header.specs.Leading.{countryBy, linesBy, datedBy, headerBy};
 use dial_code::Keyed;
 use rate::Day;
 use varint::Number;
 use varint::Reader;
+
+pub const MOST_LINES: u64 = 65_535;
+
+// The kinds of a notice.
+pub const FULL: u64 = 1;
+
+pub const PARTIAL: u64 = 2;
+
+pub const UPDATE: u64 = 3;
+
+pub const REPLACEMENT: u64 = 4;
+
+// The fields before the lines: `country` is the value of a replacement's country, else 0; `start` is where the first line
+// starts.
+pub struct Header {
+    pub kind: u64,
+    pub received: u64,
+    pub country: u64,
+    pub lines: u64,
+    pub start: usize,
+}
+
+pub enum HeaderRead {
+    Leads(Header),
+    Refused(u64),
+}
 
 // A replacement country's value field: exactly a country code.
 fn country_field(count: u64, value: u64, end: usize) -> Number
@@ -46,7 +70,7 @@ fn country_by(count: Number, value: Number) -> Number
 fn lines_by(kind: u64, received: u64, country: u64, count: Number) -> HeaderRead
     ensures { λ r. ⌜ r ≡ linesBy kind received country count ⌝ }
 {
-    match varint::in_range(count, 1, crate::MOST_LINES) {
+    match varint::in_range(count, 1, MOST_LINES) {
         Number::Refused(e) => HeaderRead::Refused(e),
         Number::Value(lines, start) => HeaderRead::Leads(Header {
             kind,
@@ -65,7 +89,7 @@ fn dated_by(kind: u64, received: Number, third: Number, fourth: Number, fifth: N
     match varint::in_range(received, 0, Day::LAST_RECEIVED.0) {
         Number::Refused(e) => HeaderRead::Refused(e),
         Number::Value(day, _) => {
-            if kind == crate::REPLACEMENT {
+            if kind == REPLACEMENT {
                 return match country_by(third, fourth) {
                     Number::Refused(e) => HeaderRead::Refused(e),
                     Number::Value(country, _) => lines_by(kind, day, country, fifth),
@@ -89,10 +113,10 @@ fn header_by(
     match kind {
         Number::Refused(e) => HeaderRead::Refused(e),
         Number::Value(known, _) => {
-            if known < crate::FULL {
+            if known < FULL {
                 return HeaderRead::Refused(refusal::UNKNOWN_KIND);
             }
-            if crate::REPLACEMENT < known {
+            if REPLACEMENT < known {
                 return HeaderRead::Refused(refusal::UNKNOWN_KIND);
             }
             dated_by(known, received, third, fourth, fifth)

@@ -1,4 +1,4 @@
--- `notice::leading::country_field` meets its contract: a return for each test of the rule. Assumes nothing.
+-- `notice_header::country_field` meets its contract: a return for each test of the rule. Assumes nothing.
 use mathlib.Core.Path.{_≡_, sym, _∙_}
 use mathlib.Core.Bool.{true, cond}
 use borrow.Author.Needs.{needs}
@@ -6,12 +6,12 @@ use borrow.Author.Tests.{not-true, not-false}
 use Rattle.varint.proofs.Links.{yes-case, no-case}
 use Rattle.varint.specs.declared.Number.the-variants.{Value, Refused}
 use Rattle.line_code.specs.CodeRule.{isCountry}
-use Rattle.notice.specs.NoticeRule.{countryField}
+use Rattle.notice_header.specs.HeaderRule.{countryField}
 use Rattle.country_code.specs.CountryCode.{countryOfKey}
 use Rattle.country_code.specs.Code.{isCodeKey}
-use Rattle.notice.proofs.Countries.{country-tests, country-refused}
-use Rattle.notice.proofs.leading.country_field.Statement.{statement}
-use Rattle.notice.proofs.leading.country_field.Tie as tie
+use Rattle.notice_header.proofs.Countries.{country-tests, country-refused}
+use Rattle.notice_header.proofs.country_field.Statement.{statement}
+use Rattle.notice_header.proofs.country_field.Tie as tie
 
 -- the rule by the tests of the code
 tests : (c : tie.After-is-code-key) →

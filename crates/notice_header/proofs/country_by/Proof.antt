@@ -1,4 +1,4 @@
--- `notice::leading::country_by` meets its contract: a count in range is 1 to 15, which the value field asks for. Assumes
+-- `notice_header::country_by` meets its contract: a count in range is 1 to 15, which the value field asks for. Assumes
 -- nothing.
 use mathlib.Core.Path.{_≡_, sym, _∙_}
 use borrow.Author.Needs.{needs}
@@ -6,8 +6,8 @@ use Rattle.varint.proofs.Links.{on-value, on-refused}
 use Rattle.varint.specs.declared.Number.the-variants.{Value}
 use Rattle.varint.specs.Ranged.{inRange}
 use Rattle.varint.proofs.Ranges.{in-range-facts}
-use Rattle.notice.proofs.leading.country_by.Statement.{statement}
-use Rattle.notice.proofs.leading.country_by.Tie as tie
+use Rattle.notice_header.proofs.country_by.Statement.{statement}
+use Rattle.notice_header.proofs.country_by.Tie as tie
 
 count-read : (c : tie.After-digits)
     → inRange (c .before .before .before .args .count) 1 15 ≡ Value (c .digits .given .0 .0) (c .digits .given .0 .1 .0)
