@@ -15,7 +15,7 @@ use Rattle.country_code.specs.declared.Country.{Country}
 use Rattle.country_code.specs.declared.Country.the-variants.{Code, None}
 use Rattle.country_code.proofs.StretchLaws.{one-country}
 use Rattle.dial_code.proofs.Tests.{both}
-use Rattle.notice.specs.NoticeRule.{full, partial, update, replacement}
+use Rattle.notice_header.specs.HeaderRule.{full, partial, update, replacement}
 use Rattle.closing.specs.Closings.{isMarked, closesIn, closesBy, range, closedAnyway, closedRange}
 use Rattle.closing.specs.declared.ClosedRange.{ClosedRange}
 use Rattle.effect.specs.declared.Plan.{Plan}

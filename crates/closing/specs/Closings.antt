@@ -11,7 +11,7 @@ use Rattle.country_code.specs.CountryCode.{countryOfKey}
 use Rattle.country_code.specs.Stretches.{stretchOf}
 use Rattle.country_code.specs.declared.Country.{Country}
 use Rattle.country_code.specs.declared.Country.the-variants.{Code, None}
-use Rattle.notice.specs.NoticeRule.{full, partial, update, replacement}
+use Rattle.notice_header.specs.HeaderRule.{full, partial, update, replacement}
 use Rattle.closing.specs.declared.ClosedRange.{ClosedRange}
 use Rattle.effect.specs.declared.Plan.{Plan}
 

@@ -25,10 +25,10 @@ fn is_marked(marks: &[u8; 1000], country: u64) -> bool
 fn closes(plan: Plan, marks: &[u8; 1000], key: u64) -> bool
     ensures { λ r. ⌜ r ≡ closesBy plan (now (marks .entry)) key ⌝ }
 {
-    if plan.kind == notice::FULL {
+    if plan.kind == notice_header::FULL {
         return true;
     }
-    if plan.kind == notice::PARTIAL {
+    if plan.kind == notice_header::PARTIAL {
         match country_code::country_of_key(key) {
             Country::Code(country) => {
                 return is_marked(marks, country);
@@ -38,7 +38,7 @@ fn closes(plan: Plan, marks: &[u8; 1000], key: u64) -> bool
             }
         }
     }
-    if plan.kind == notice::REPLACEMENT {
+    if plan.kind == notice_header::REPLACEMENT {
         match country_code::country_of_key(key) {
             Country::Code(country) => {
                 return country == plan.country;
@@ -55,7 +55,7 @@ fn closes(plan: Plan, marks: &[u8; 1000], key: u64) -> bool
 pub fn closed_anyway(plan: Plan) -> ClosedRange
     ensures { λ r. ⌜ r ≡ closedAnyway plan ⌝ }
 {
-    if plan.kind == notice::FULL {
+    if plan.kind == notice_header::FULL {
         return ClosedRange {
             keys: Stretch {
                 low: 0,
@@ -64,7 +64,7 @@ pub fn closed_anyway(plan: Plan) -> ClosedRange
             closed: true,
         };
     }
-    if plan.kind == notice::UPDATE {
+    if plan.kind == notice_header::UPDATE {
         return ClosedRange {
             keys: Stretch {
                 low: 0,

@@ -8,7 +8,7 @@ use lib.Seq.{set-out}
 use Rattle.country_code.specs.CountryCode.{countryOfKey}
 use Rattle.country_code.specs.declared.Country.{Country}
 use Rattle.country_code.specs.declared.Country.the-variants.{Code, None}
-use Rattle.notice.specs.NoticeRule.{partial}
+use Rattle.notice_header.specs.HeaderRule.{partial}
 use Rattle.notice_line.specs.declared.Line.{Line}
 use Rattle.country_marks.specs.Marks.{marked, marksOf, noMarks, marksFor}
 

@@ -7,7 +7,7 @@ use lib.ListN.{set, replicate}
 use Rattle.country_code.specs.CountryCode.{countryOfKey}
 use Rattle.country_code.specs.declared.Country.{Country}
 use Rattle.country_code.specs.declared.Country.the-variants.{Code, None}
-use Rattle.notice.specs.NoticeRule.{partial}
+use Rattle.notice_header.specs.HeaderRule.{partial}
 use Rattle.notice_line.specs.declared.Line.{Line}
 
 -- The table of marks: a 1 at the value of each country of the lines.

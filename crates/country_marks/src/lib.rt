@@ -48,7 +48,7 @@ pub fn marks_for(notice: &[u8], m: Summary) -> [u8; 1000]
     ensures { λ r. ⌜ r ≡ marksFor (m .kind) (linesAt (m .lines) (now (notice .entry)) (m .start)) ⌝ }
 {
     let mut marks = [0u8; 1000];
-    if m.kind == notice::PARTIAL {
+    if m.kind == notice_header::PARTIAL {
         mark_lines(notice, m.start, m.lines, &mut marks);
     }
     marks

@@ -13,7 +13,8 @@ use Rattle.country_code.specs.CountryCode.{country}
 use Rattle.country_code.specs.declared.Country.the-variants.{None}
 use Rattle.calendar.specs.Time.{isDay}
 use Rattle.calendar.specs.declared.Day.{Day}
-use Rattle.notice.specs.NoticeRule.{Notice, notice, readNotice, full}
+use Rattle.notice.specs.NoticeRule.{Notice, notice, readNotice}
+use Rattle.notice_header.specs.HeaderRule.{full}
 use Rattle.notice_line.specs.declared.Line.{Line}
 use Rattle.book_words.specs.Layout.{headerWords, periodOf, receivedOf, held, entriesOf}
 use Rattle.book.specs.Soundness.{sound}

@@ -10,7 +10,7 @@ use Rattle.rate.specs.declared.Offer.{Offer}
 use Rattle.rate.specs.declared.Offer.the-variants.{Closed, Blocked, Open}
 use Rattle.notice_line.specs.LineRule.{lineOf, listedDay}
 use Rattle.notice_line.specs.declared.Line.{Line}
-use Rattle.notice.specs.NoticeRule.{update}
+use Rattle.notice_header.specs.HeaderRule.{update}
 use Rattle.book_words.specs.Layout.{entry}
 use Rattle.book_words.specs.declared.Entry.{Entry}
 use Rattle.longest_match.specs.Search.{bestFound}

@@ -17,7 +17,8 @@ use Rattle.country_code.specs.declared.Country.the-variants.{None}
 use Rattle.country_code.proofs.CountryLaws.{country-of-key}
 use Rattle.dial_code.proofs.DigitLaws.{dialled-digits}
 use Rattle.calendar.specs.declared.Day.{Day}
-use Rattle.notice.specs.NoticeRule.{Notice, notice, readNotice, full}
+use Rattle.notice.specs.NoticeRule.{Notice, notice, readNotice}
+use Rattle.notice_header.specs.HeaderRule.{full}
 use Rattle.notice_line.specs.declared.Line.{Line}
 use Rattle.notice.proofs.NoticeLaws.{notice-valid}
 use Rattle.book_words.specs.Layout.{headerWords, periodOf, receivedOf, held, entriesOf}

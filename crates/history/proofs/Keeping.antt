@@ -3,7 +3,7 @@
 use mathlib.Core.Path.{_≡_, refl, ap, sym, _∙_}
 use mathlib.Core.Bool.{Bool, true, false, cond, _||_, true≢false}
 use mathlib.Core.List.{List, [], _∷_}
-use Prim.Native.Nat.{ℕ, _+_, _-_, _≤_}
+use Prim.Native.Nat.{ℕ, _+_, _≤_}
 use native.Mathlib.Omega.{arith}
 use borrow.Author.Tests.{le-leb, eqb-true}
 use lib.Dec.{eqb, leb}
@@ -12,7 +12,8 @@ use Rattle.rate.specs.OfferWord.{inRange}
 use Rattle.rate.specs.declared.Offer.{Offer}
 use Rattle.rate.specs.declared.Offer.the-variants.{Closed}
 use Rattle.calendar.specs.Time.{lastDay, lastReceivedDay}
-use Rattle.notice.specs.NoticeRule.{Notice, notice, readNotice, replacement}
+use Rattle.notice.specs.NoticeRule.{Notice, notice, readNotice}
+use Rattle.notice_header.specs.HeaderRule.{replacement}
 use Rattle.book_words.specs.Layout.{mostPeriod}
 use Rattle.notice_line.specs.declared.Line.{Line}
 use Rattle.notice.proofs.LinesLaws.{ValidFrom}

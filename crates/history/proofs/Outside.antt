@@ -23,7 +23,8 @@ use Rattle.refusal.specs.Refusal.{bookTooShort}
 use Rattle.calendar.specs.Time.{isDay}
 use Rattle.calendar.specs.declared.Day.{Day}
 use Rattle.rate.specs.declared.Offer.the-variants.{Closed}
-use Rattle.notice.specs.NoticeRule.{Notice, readNotice, full, partial, replacement}
+use Rattle.notice_header.specs.HeaderRule.{full, partial, replacement}
+use Rattle.notice.specs.NoticeRule.{Notice, readNotice}
 use Rattle.notice_line.specs.declared.Line.{Line}
 use Rattle.notice.proofs.LinesLaws.{ValidFrom}
 use Rattle.notice.proofs.NoticeLaws.{Valid}

@@ -14,7 +14,8 @@ use Rattle.rate.specs.declared.Rate.{Rate}
 use Rattle.rate.specs.declared.Offer.{Offer}
 use Rattle.rate.specs.declared.Offer.the-variants.{Closed, Blocked, Open}
 use Rattle.notice_line.specs.LineRule.{lineOf, listedDay}
-use Rattle.notice.specs.NoticeRule.{Notice, full, partial, update, replacement}
+use Rattle.notice_header.specs.HeaderRule.{full, partial, update, replacement}
+use Rattle.notice.specs.NoticeRule.{Notice}
 use Rattle.notice_line.specs.declared.Line.{Line}
 use Rattle.longest_match.specs.Match.{longest, matched}
 

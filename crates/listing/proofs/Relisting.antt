@@ -14,7 +14,7 @@ use Rattle.rate.specs.declared.Offer.{Offer}
 use Rattle.rate.specs.declared.Offer.the-variants.{Closed, Blocked, Open}
 use Rattle.rate.proofs.Words.{closed-word}
 use Rattle.notice_line.specs.LineRule.{lineOf}
-use Rattle.notice.specs.NoticeRule.{replacement}
+use Rattle.notice_header.specs.HeaderRule.{replacement}
 use Rattle.notice_writing.specs.Layout.{encodeNotice}
 use Rattle.notice_line.specs.declared.Line.{Line}
 use Rattle.notice.proofs.LinesLaws.{ValidFrom}

@@ -16,7 +16,8 @@ use Rattle.calendar.specs.declared.Day.{Day}
 use Rattle.rate.specs.declared.Offer.{Offer}
 use Rattle.rate.specs.declared.Offer.the-variants.{Blocked, Open}
 use Rattle.notice_line.specs.LineRule.{lineOf}
-use Rattle.notice.specs.NoticeRule.{full, Notice}
+use Rattle.notice_header.specs.HeaderRule.{full}
+use Rattle.notice.specs.NoticeRule.{Notice}
 use Rattle.notice_writing.specs.Layout.{encodeNotice}
 use Rattle.notice_line.specs.declared.Line.{Line}
 use Rattle.book_words.specs.Layout.{headerWords, entryWords, mostPeriod, entry, entriesOf, bookOf}

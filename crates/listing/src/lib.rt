@@ -161,7 +161,7 @@ fn is_held(words: &[u64], day: Day, lines: usize, room: usize) -> bool
     requires { ⌜ (lines ≡ length (standingLines (entriesOf (now words)) (day .0))) × (0 < lines) ⌝ }
     ensures { λ r. ⌜ r ≡ leb (length (listOf (now (words .entry)) day)) room ⌝ }
 {
-    let header = notice_writing::header_size(notice::FULL, day.0, 0, lines as u64);
+    let header = notice_writing::header_size(notice_header::FULL, day.0, 0, lines as u64);
     if header + lines * MOST_LINE <= room {
         return true;
     }
@@ -196,7 +196,7 @@ fn write_all(words: &[u64], day: Day, lines: usize, out: &mut [u8]) -> usize
     ensures { λ r. ⌜ r ≡ length (listOf (now (words .entry)) day) ⌝ }
     ensures { λ _. ⌜ now (out .exit) ≡ sets (now (out .entry)) 0 (listOf (now (words .entry)) day) ⌝ }
 {
-    match notice_writing::write_header(out, 0, notice::FULL, day.0, 0, lines as u64) {
+    match notice_writing::write_header(out, 0, notice_header::FULL, day.0, 0, lines as u64) {
         Written::UpTo(at) => write_lines(words, day.0, out, at),
         // The caller has seen to the room, and every field has an encoding.
         Written::NoRoom => 0,

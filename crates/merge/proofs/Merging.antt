@@ -9,7 +9,7 @@ use lib.ListN.{length}
 use lib.Seq.{sets}
 use Rattle.dial_code.specs.Key.{keysEnd}
 use Rattle.notice_line.specs.LineRule.{lineAt}
-use Rattle.notice.specs.NoticeRule.{mostLines}
+use Rattle.notice_header.specs.HeaderRule.{mostLines}
 use Rattle.notice_line.specs.declared.Line.{Line}
 use Rattle.notice_line.specs.declared.LineRead.{LineRead}
 use Rattle.notice_line.specs.declared.LineRead.the-variants.{Read, Refused}

@@ -4,7 +4,7 @@ use mathlib.Core.Path.{_≡_}
 use Prim.Native.Nat.{ℕ, _+_, _-_, _*_, _/_, _≤_, min}
 use lib.ListN.{length}
 use Rattle.dial_code.specs.Key.{keysEnd}
-use Rattle.notice.specs.NoticeRule.{mostLines}
+use Rattle.notice_header.specs.HeaderRule.{mostLines}
 use Rattle.notice_line.specs.declared.Line.{Line}
 use Rattle.book_words.specs.Layout.{headerWords, entryWords, mostEntries, mostWords, latestOf, entriesFrom, putEntries}
 use Rattle.book.specs.Soundness.{headedCount}

@@ -277,7 +277,7 @@ pub fn merge(
     let header = book_words::header_of(old);
     let mut latest = header.latest;
     let mut at = start;
-    let mut left = lesser(lines, notice::MOST_LINES);
+    let mut left = lesser(lines, notice_header::MOST_LINES);
     while 0 < left {
         match notice_line::line_at(notice, at) {
             LineRead::Refused(_) => {

@@ -4,14 +4,15 @@ use mathlib.Core.List.{List}
 use Prim.Native.Nat.{ℕ, _≤_}
 use native.Mathlib.Omega.{arith}
 use lib.ListN.{length, drop}
-use Rattle.notice.specs.NoticeRule.{Lines, lines, refused, readLines, Notice, Reading, notice, unread, withHeader, withLines, readHeader, readNotice, earliest, scanned, startOf, summary, told, checkNotice}
-use Rattle.notice.specs.declared.Header.{Header}
-use Rattle.notice.specs.declared.HeaderRead.{HeaderRead}
-use Rattle.notice.specs.declared.HeaderRead.the-variants as header
+use Rattle.notice_header.specs.HeaderRule.{readHeader}
+use Rattle.notice.specs.NoticeRule.{Lines, lines, refused, readLines, Notice, Reading, notice, unread, withHeader, withLines, readNotice, earliest, scanned, startOf, summary, told, checkNotice}
+use Rattle.notice_header.specs.declared.Header.{Header}
+use Rattle.notice_header.specs.declared.HeaderRead.{HeaderRead}
+use Rattle.notice_header.specs.declared.HeaderRead.the-variants as header
 use Rattle.notice.specs.declared.Scan.the-variants as scan
 use Rattle.notice.specs.declared.Summary.{Summary}
 use Rattle.notice.specs.declared.Checked.the-variants as checked
-use Rattle.notice.proofs.HeaderLaws.{header-spans}
+use Rattle.notice_header.proofs.HeaderLaws.{header-spans}
 use Rattle.notice.proofs.LinesLaws.{lines-length}
 
 -- the lines after a header

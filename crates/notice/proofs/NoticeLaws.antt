@@ -4,12 +4,13 @@ use mathlib.Core.List.{List}
 use Prim.Native.Nat.{ℕ, _≤_, _<_}
 use native.Mathlib.Omega.{arith}
 use lib.ListN.{length, drop}
-use Rattle.notice.specs.NoticeRule.{Lines, lines, refused, readLines, Notice, Reading, notice, unread, withHeader, withLines, readHeader, readNotice}
-use Rattle.notice.specs.declared.Header.{Header}
-use Rattle.notice.specs.declared.HeaderRead.{HeaderRead}
-use Rattle.notice.specs.declared.HeaderRead.the-variants as header
+use Rattle.notice_header.specs.HeaderRule.{readHeader}
+use Rattle.notice.specs.NoticeRule.{Lines, lines, refused, readLines, Notice, Reading, notice, unread, withHeader, withLines, readNotice}
+use Rattle.notice_header.specs.declared.Header.{Header}
+use Rattle.notice_header.specs.declared.HeaderRead.{HeaderRead}
+use Rattle.notice_header.specs.declared.HeaderRead.the-variants as header
 use Rattle.varint.proofs.Told.{Known}
-use Rattle.notice.proofs.HeaderLaws.{Leading, HeaderTold, header-told}
+use Rattle.notice_header.proofs.HeaderLaws.{Leading, HeaderTold, header-told}
 use Rattle.notice.proofs.LinesLaws.{ValidFrom, LinesTold, lines-told}
 
 -- A valid notice: its leading fields are in range, only a replacement names a country, and each line is valid after the one

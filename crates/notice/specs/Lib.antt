@@ -1,3 +1,2 @@
--- The rules of a whole notice, and the header from numbers that a reader gave.
+-- The rules of a whole notice.
 pub mod NoticeRule
-pub mod Leading

@@ -3,37 +3,9 @@ ghost use mathlib.Core.Path.{_≡_};
 ghost use Prim.Native.Nat.{_≤_, min};
 ghost use lib.ListN.{length, drop};
 ghost use Rattle.notice.specs.NoticeRule.{readLines, scanned, checkNotice};
-
-mod leading;
-
 use calendar::Day;
+use notice_header::HeaderRead;
 use notice_line::LineRead;
-
-pub const MOST_LINES: u64 = 65_535;
-
-// The kinds of a notice.
-pub const FULL: u64 = 1;
-
-pub const PARTIAL: u64 = 2;
-
-pub const UPDATE: u64 = 3;
-
-pub const REPLACEMENT: u64 = 4;
-
-// The fields before the lines: `country` is the value of a replacement's country, else 0; `start` is where the first line
-// starts.
-pub struct Header {
-    pub kind: u64,
-    pub received: u64,
-    pub country: u64,
-    pub lines: u64,
-    pub start: usize,
-}
-
-pub enum HeaderRead {
-    Leads(Header),
-    Refused(u64),
-}
 
 // What later passes need of a checked notice: its leading fields, where its first line starts, and the earliest listed day,
 // where a line that lists none counts as listing day 0.
@@ -97,7 +69,7 @@ fn scan_lines(notice: &[u8], named: u64, count: u64, start: usize) -> Scan
 pub fn check_notice(notice: &[u8]) -> Checked
     ensures { λ r. ⌜ r ≡ checkNotice (now (notice .entry)) ⌝ }
 {
-    match leading::leading_fields(notice) {
+    match notice_header::leading_fields(notice) {
         HeaderRead::Refused(e) => Checked::Refused(e),
         HeaderRead::Leads(h) => match scan_lines(notice, h.country, h.lines, h.start) {
             Scan::Refused(e) => Checked::Refused(e),

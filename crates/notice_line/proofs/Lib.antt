@@ -1,5 +1,4 @@
 -- The laws of one line of a notice.
 pub mod Links
-pub mod Codes
 pub mod LineLaws
 pub mod LineAt

@@ -8,7 +8,8 @@ use Rattle.refusal.specs.Refusal.{bytesEnd}
 use Rattle.varint.specs.Reading.{readNumber}
 use Rattle.varint.specs.Ranged.{readRanged}
 use Rattle.varint.proofs.Slices.{rest}
-use Rattle.notice_line.specs.LineRule.{readCode, readLine, lineFrom, lineAt}
+use Rattle.line_code.specs.CodeRule.{readCode}
+use Rattle.notice_line.specs.LineRule.{readLine, lineFrom, lineAt}
 use Rattle.notice_line.specs.declared.Line.{Line}
 use Rattle.notice_line.specs.declared.LineRead.{LineRead}
 use Rattle.notice_line.specs.declared.LineRead.the-variants as line

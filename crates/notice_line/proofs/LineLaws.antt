@@ -1,191 +1,37 @@
 -- What a line that is read tells: where it ends, that it reads the same by itself, and what its fields hold.
 -- Assumes nothing.
-use mathlib.Core.Path.{_≡_, refl, _∙_, subst}
+use mathlib.Core.Path.{_≡_, _∙_, refl, subst}
 use mathlib.Core.Bool.{true, _||_}
 use mathlib.Core.List.{List}
 use mathlib.Core.Logic.{_⊎_, ⊎-elim, inl, inr}
-use Prim.Native.Nat.{ℕ, _^_, _≤_, _<_}
+use Prim.Native.Nat.{ℕ, _≤_, _<_}
 use native.Mathlib.Omega.{arith}
-use borrow.Author.Tests.{ltb-true, lt-ltb, leb-true, eqb-true}
-use lib.Dec.{eqb, leb, ltb}
+use borrow.Author.Tests.{leb-true, eqb-true}
+use lib.Dec.{eqb, leb}
 use lib.ListN.{length}
 use Rattle.varint.specs.Reading.{readNumber}
 use Rattle.varint.specs.declared.Number.{Number}
-use Rattle.varint.specs.declared.Number.the-variants.{Value, Refused}
-use Rattle.dial_code.specs.Digits.{digits}
-use Rattle.dial_code.specs.Key.{key}
-use Rattle.country_code.specs.CountryCode.{country, countryOfKey}
-use Rattle.allowed_code.specs.Code.{isCode, isCodeKey}
+use Rattle.varint.specs.declared.Number.the-variants.{Value}
+use Rattle.country_code.specs.CountryCode.{countryOfKey}
+use Rattle.allowed_code.specs.Code.{isCodeKey}
 use Rattle.country_code.specs.declared.Country.the-variants.{Code}
-use Rattle.dial_code.proofs.DigitLaws.{length-digits, digits-are}
-use Rattle.allowed_code.proofs.CodeLaws.{code-keyed}
-use Rattle.country_code.proofs.CountryLaws.{country-of-key}
-use Rattle.rate.specs.Price.{priceOf}
 use Rattle.rate.specs.OfferWord.{inRange}
-use Rattle.rate.specs.declared.Priced.{Priced}
-use Rattle.rate.specs.declared.Priced.the-variants as priced
 use Rattle.rate.specs.declared.Offer.{Offer}
-use Rattle.rate.specs.declared.Offer.the-variants.{Open}
-use Rattle.rate.proofs.Prices.{open-price}
-use Rattle.rate.proofs.Words.{parts}
-use Rattle.varint.specs.Ranged.{readRanged}
-use Rattle.notice_line.specs.LineRule.{isCountry, codeField, readCode, offered, readIncrements, readRate, readTerms, listedField, readListed, withTerms, readLine}
+use Rattle.line_terms.specs.TermsRule.{readTerms}
+use Rattle.line_terms.specs.declared.Terms.{Terms}
+use Rattle.line_terms.specs.declared.Terms.the-variants as terms
+use Rattle.line_code.specs.CodeRule.{readCode}
+use Rattle.notice_line.specs.LineRule.{listedField, readListed, withTerms, readLine}
 use Rattle.notice_line.specs.declared.Line.{Line}
 use Rattle.notice_line.specs.declared.LineRead.{LineRead}
 use Rattle.notice_line.specs.declared.LineRead.the-variants as line
-use Rattle.notice_line.specs.declared.Terms.{Terms}
-use Rattle.notice_line.specs.declared.Terms.the-variants as terms
 use Rattle.varint.proofs.Links.{on-value, yes-case}
-use Rattle.notice_line.proofs.Links.{on-offered, one-of, is-country}
-use Rattle.varint.proofs.Told.{Known, Told, then-told, Spans, number-told, Ranged, ranged-told}
+use Rattle.line_terms.proofs.TermsLaws.{TermsTold, terms-told}
+use Rattle.line_code.proofs.Links.{one-of}
+use Rattle.line_code.proofs.CodeTold.{Coded, code-told}
+use Rattle.notice_line.proofs.Links.{on-offered}
+use Rattle.varint.proofs.Told.{Known, Told, then-told, Spans, number-told}
 use Rattle.varint.proofs.Links.{either}
-
--- What a key read at a position tells: an allowed code's, above the line before's, in the country that a replacement names.
-pub record Coded (named before : ℕ) (s : List ℕ) (at k end : ℕ) : Type 0 where
-  pub moves : at < end
-  pub stays : end ≤ length s
-  pub allowed : isCodeKey k ≡ true
-  pub rises : before < k
-  pub inside : (named ≡ 0) ⊎ (countryOfKey k ≡ Code named)
-  pub alone : readCode 0 0 s at ≡ Value k end
-
--- the same of a value field
-record Field (named before count v at k end : ℕ) : Type 0 where
-  ends : end ≡ at
-  allowed : isCodeKey k ≡ true
-  rises : before < k
-  inside : (named ≡ 0) ⊎ (countryOfKey k ≡ Code named)
-  alone : codeField 0 0 count v at ≡ Value k end
-
-field-told : (named before count v at : ℕ) → count ≤ 15 → Told (Field named before count v at) (codeField named before count v at)
-unfolding Told codeField
-field-told named before count v at l =
-    either F (ltb v (10 ^ count)) _ _
-    (λ w.
-    either F (isCode ds) _ _
-    (λ c.
-    either F (ltb before (key ds)) _ _
-    (λ r.
-    either F (eqb named 0 || isCountry (country ds) named) _ _
-    (λ i.
-    let m : before < key ds = ltb-true _ _ r in
-    record {
-      ends = refl;
-      allowed = code-keyed ds c;
-      rises = m;
-      inside = within i;
-      alone = yes-case _ _ w ∙ yes-case _ _ c ∙ yes-case _ _ (lt-ltb 0 (key ds) (omega arith));
-    })
-    (λ i. omega arith))
-    (λ r. omega arith))
-    (λ c. omega arith))
-    (λ w. omega arith)
-  where
-    F : Number → Type 0
-    F = Told (Field named before count v at)
-
-    ds : List ℕ
-    ds = digits count v
-
-    within : (eqb named 0 || isCountry (country ds) named) ≡ true → (named ≡ 0) ⊎ (countryOfKey (key ds) ≡ Code named)
-    within i =
-        ⊎-elim
-        (λ z. inl (eqb-true named 0 z))
-        (λ z. inr (country-of-key ds (digits-are count v) (rw (length-digits count v) l) ∙ is-country (country ds) named z))
-        (one-of (eqb named 0) (isCountry (country ds) named) i)
-
-pub code-told : (named before : ℕ) (s : List ℕ) (at : ℕ) → Told (Coded named before s at) (readCode named before s at)
-unfolding Told readCode
-code-told named before s at =
-    then-told (Ranged s at 1 15) F (readRanged s at 1 15) _ _ (ranged-told s at 1 15)
-    (λ count next e p.
-    then-told (Spans s next) F (readNumber s next) _ _ (number-told s next)
-    (λ v end f q.
-    then-field count next v end e f (p .moves) (q .moves) (q .stays)
-    (codeField named before count v end) (field-told named before count v end (p .to)))
-    (λ n k. k))
-    (λ n k. k)
-  where
-    F : Number → Type 0
-    F = Told (Coded named before s at)
-
-    then-field :
-        (count next v end : ℕ)
-        → readRanged s at 1 15 ≡ Value count next
-        → readNumber s next ≡ Value v end
-        → at < next
-        → next < end
-        → end ≤ length s
-        → (r : Number)
-        → Told (Field named before count v end) r
-        → Told (Coded named before s at) r
-    then-field count next v end e f h m l (Value k x) t =
-        record {
-          moves = omega (arith, t .ends);
-          stays = omega (arith, t .ends);
-          allowed = t .allowed;
-          rises = t .rises;
-          inside = t .inside;
-          alone = on-value _ _ e ∙ on-value _ _ f ∙ t .alone;
-        }
-    then-field count next v end e f h m l (Refused n) t = t
-
--- What a line's terms tell: an offer that a book can hold.
-unfoldable pub TermsTold : List ℕ → ℕ → Terms → Type 0
-TermsTold s at (terms.Offered o end) = (at < end) × (end ≤ length s) × (inRange o ≡ true)
-TermsTold s at (terms.Refused e) = Known e
-
-offered-in-range : (mantissa decimals first next : ℕ) → 1 ≤ first → first ≤ 255 → 1 ≤ next → next ≤ 255
-    → inRange (offered (priceOf mantissa decimals) first next) ≡ true
-unfolding inRange
-offered-in-range mantissa decimals first next a b c d = go (priceOf mantissa decimals) refl
-  where
-    go : (p : Priced) → priceOf mantissa decimals ≡ p → inRange (offered p first next) ≡ true
-    go (priced.Open r) e =
-        parts r first next .1
-        (record
-        { rate-most = open-price mantissa decimals r e .1; first-least = a; first-most = b; next-least = c; next-most = d })
-    go priced.Block e = refl
-    go priced.OutOfRange e = refl
-
-increments-told : (mantissa decimals : ℕ) (s : List ℕ) (from at : ℕ) → from < at
-    → TermsTold s from (readIncrements mantissa decimals s at)
-unfolding TermsTold readIncrements
-increments-told mantissa decimals s from at h =
-    then-told (Ranged s at 1 255) (TermsTold s from) (readRanged s at 1 255) _ _ (ranged-told s at 1 255)
-    (λ first mid e p.
-    then-told (Ranged s mid 1 255) (TermsTold s from) (readRanged s mid 1 255) _ _ (ranged-told s mid 1 255)
-    (λ next end f q. (
-      omega (arith, p .moves, q .moves),
-      q .stays,
-      offered-in-range mantissa decimals first next (p .from) (p .to) (q .from) (q .to),
-    ))
-    (λ n k. k))
-    (λ n k. k)
-
-rate-told : (s : List ℕ) (from at : ℕ) → from < at → TermsTold s from (readRate s at)
-unfolding TermsTold readRate
-rate-told s from at h =
-    then-told (Ranged s at 0 12) (TermsTold s from) (readRanged s at 0 12) _ _ (ranged-told s at 0 12)
-    (λ decimals mid e p.
-    then-told (Ranged s mid 0 (10 ^ 10)) (TermsTold s from) (readRanged s mid 0 (10 ^ 10)) _ _ (ranged-told s mid 0 (10 ^ 10))
-    (λ mantissa end f q. increments-told mantissa decimals s from end (omega (arith, p .moves, q .moves)))
-    (λ n k. k))
-    (λ n k. k)
-
-pub terms-told : (s : List ℕ) (at : ℕ) → TermsTold s at (readTerms s at)
-unfolding TermsTold readTerms inRange
-terms-told s at =
-    then-told (Spans s at) F (readNumber s at) _ _ (number-told s at)
-    (λ status end e p.
-    either F (eqb status 0) _ _ (λ t. (p .moves, p .stays, refl))
-    (λ t.
-    either F (eqb status 1) _ _ (λ u. (p .moves, p .stays, refl))
-    (λ u. either F (eqb status 2) _ _ (λ v. rate-told s at end (p .moves)) (λ v. omega arith))))
-    (λ n k. k)
-  where
-    F : Terms → Type 0
-    F = TermsTold s at
 
 -- What a last field tells: a day in range, and in a replacement that of the line before.
 pub record Listed (named before last : ℕ) (s : List ℕ) (at n end : ℕ) : Type 0 where

@@ -1,40 +1,15 @@
--- From a rule to one of its cases, a link at a time, and back from what a rule came to.
--- Assumes nothing.
-use mathlib.Core.Path.{_≡_, refl, ap}
-use mathlib.Core.Bool.{Bool, true, false, _||_, false≢true}
-use mathlib.Core.Logic.{_⊎_, inl, inr}
+-- From a line's rule to one of its cases, by what the terms came to. Assumes nothing.
+use mathlib.Core.Path.{_≡_, ap}
 use Prim.Native.Nat.{ℕ}
-use borrow.Author.Tests.{eqb-true}
 use Rattle.rate.specs.declared.Offer.{Offer}
-use Rattle.country_code.specs.declared.Country.{Country}
-use Rattle.country_code.specs.declared.Country.the-variants.{Code, None}
-use Rattle.notice_line.specs.LineRule.{isCountry, withTerms}
+use Rattle.line_terms.specs.declared.Terms.{Terms}
+use Rattle.line_terms.specs.declared.Terms.the-variants as terms
+use Rattle.notice_line.specs.LineRule.{withTerms}
 use Rattle.notice_line.specs.declared.LineRead.{LineRead}
 use Rattle.notice_line.specs.declared.LineRead.the-variants as line
-use Rattle.notice_line.specs.declared.Terms.{Terms}
-use Rattle.notice_line.specs.declared.Terms.the-variants as terms
 
 pub on-offered : {r : Terms} {o : Offer} {at : ℕ} (f : Offer → ℕ → LineRead) → r ≡ terms.Offered o at → withTerms r f ≡ f o at
 on-offered f e = ap (λ (r : Terms). withTerms r f) e
 
 pub on-no-terms : {r : Terms} {n : ℕ} (f : Offer → ℕ → LineRead) → r ≡ terms.Refused n → withTerms r f ≡ line.Refused n
 on-no-terms f e = ap (λ (r : Terms). withTerms r f) e
-
-pub or-left : {a : Bool} (b : Bool) → a ≡ true → (a || b) ≡ true
-or-left b e = ap (λ (a : Bool). a || b) e
-
-pub or-right : {a : Bool} (b : Bool) → a ≡ false → (a || b) ≡ b
-or-right b e = ap (λ (a : Bool). a || b) e
-
-pub or-yes : (a : Bool) {b : Bool} → b ≡ true → (a || b) ≡ true
-or-yes true e = refl
-or-yes false e = e
-
--- one of two tests holds where their disjunction does
-pub one-of : (a b : Bool) → (a || b) ≡ true → (a ≡ true) ⊎ (b ≡ true)
-one-of true b e = inl refl
-one-of false b e = inr e
-
-pub is-country : (c : Country) (n : ℕ) → isCountry c n ≡ true → c ≡ Code n
-is-country (Code m) n e = ap Code (eqb-true m n e)
-is-country None n e = absurd (false≢true e)

@@ -1,133 +1,31 @@
--- One line of a notice (document 01, "Notice layout"): digit count, value, status, for a rate its decimals, mantissa and
--- increments, and the listed day. Fields in byte order, within one field by number.
+-- One line of a notice (document 01, "Notice layout"): its code, its status with the rate that it may have, and the listed day.
+-- Fields in byte order, within one field by number.
 use mathlib.Core.Path.{_≡_, refl}
-use mathlib.Core.Bool.{Bool, false, cond, _||_}
+use mathlib.Core.Bool.{cond, _||_}
 use mathlib.Core.List.{List, [], _∷_}
-use Prim.Native.Nat.{ℕ, _+_, _-_, _^_}
-use lib.Dec.{eqb, leb, ltb}
+use Prim.Native.Nat.{ℕ, _+_, _-_}
+use lib.Dec.{eqb, leb}
 use lib.ListN.{drop}
-use Rattle.refusal.specs.Refusal.{outOfRange, unknownKind, codeNotAllowed, keysNotRising, outsideCountry, daysDiffer}
+use Rattle.refusal.specs.Refusal.{outOfRange, daysDiffer}
 use Rattle.varint.specs.Reading.{readNumber}
 use Rattle.varint.specs.declared.Number.{Number}
 use Rattle.varint.specs.declared.Number.the-variants.{Value, Refused}
-use Rattle.dial_code.specs.Digits.{mostDigits, digits}
+use Rattle.dial_code.specs.Digits.{digits}
 use Rattle.dial_code.specs.Key.{key}
 use Rattle.country_code.specs.CountryCode.{country}
 use Rattle.allowed_code.specs.Code.{isCode}
-use Rattle.country_code.specs.declared.Country.{Country}
-use Rattle.country_code.specs.declared.Country.the-variants.{Code, None}
 use Rattle.calendar.specs.Time.{lastDay}
-use Rattle.rate.specs.Price.{rate, mostDecimals, mostMantissa, priceOf}
-use Rattle.rate.specs.declared.Priced.{Priced}
-use Rattle.rate.specs.declared.Priced.the-variants as priced
+use Rattle.rate.specs.Price.{rate, priceOf}
 use Rattle.rate.specs.declared.Offer.{Offer}
 use Rattle.rate.specs.declared.Offer.the-variants.{Closed, Blocked, Open}
 use Rattle.varint.specs.Ranged.{andThen, readRanged}
+use Rattle.line_terms.specs.TermsRule.{readIncrements, readRate, readTerms}
+use Rattle.line_terms.specs.declared.Terms.{Terms}
+use Rattle.line_terms.specs.declared.Terms.the-variants as terms
+use Rattle.line_code.specs.CodeRule.{codeField, readCode}
 use Rattle.notice_line.specs.declared.Line.{Line}
 use Rattle.notice_line.specs.declared.LineRead.{LineRead}
 use Rattle.notice_line.specs.declared.LineRead.the-variants as line
-use Rattle.notice_line.specs.declared.Terms.{Terms}
-use Rattle.notice_line.specs.declared.Terms.the-variants as terms
-
--- a line's status
-abbrev pub deletes : ℕ
-deletes = 0
-
-abbrev pub blocks : ℕ
-blocks = 1
-
-abbrev pub hasRate : ℕ
-hasRate = 2
-
--- increments are at most so many seconds
-abbrev pub mostSeconds : ℕ
-mostSeconds = 255
-
--- The country of a digit string is this one.
-abbrev pub isCountry : Country → ℕ → Bool
-isCountry (Code c) n = eqb c n
-isCountry None n = false
-
--- A code's value field: below 10^count (4), an allowed code (5), a key above the line before's (6), in the replacement's
--- country (7). The key before is 0 for the first line, the country 0 where the notice is no replacement.
-unfoldable pub codeField : ℕ → ℕ → ℕ → ℕ → ℕ → Number
-codeField named before count v at =
-    cond (ltb v (10 ^ count))
-    (cond (isCode (digits count v))
-    (cond (ltb before (key (digits count v)))
-    (cond (eqb named 0 || isCountry (country (digits count v)) named) (Value (key (digits count v)) at) (Refused outsideCountry))
-    (Refused keysNotRising))
-    (Refused codeNotAllowed))
-    (Refused outOfRange)
-
--- 44 after 1 and in country 44; a value too large for its count; 01, 0 and 23, which are no codes; 44 after itself and after 45;
--- 44 in a replacement of 7, and after 45 there, where the order comes first
-code-fields :
-    codeField 0 (key (1 ∷ [])) 2 44 5
-    ∷ codeField 44 0 2 44 5
-    ∷ codeField 0 0 1 10 5
-    ∷ codeField 0 0 2 1 5
-    ∷ codeField 0 0 1 0 5
-    ∷ codeField 0 0 2 23 5
-    ∷ codeField 0 (key (4 ∷ 4 ∷ [])) 2 44 5
-    ∷ codeField 0 (key (4 ∷ 5 ∷ [])) 2 44 5
-    ∷ codeField 7 0 2 44 5
-    ∷ codeField 7 (key (4 ∷ 5 ∷ [])) 2 44 5
-    ∷ []
-    ≡ Value (key (4 ∷ 4 ∷ [])) 5
-    ∷ Value (key (4 ∷ 4 ∷ [])) 5
-    ∷ Refused 4
-    ∷ Refused 5
-    ∷ Refused 5
-    ∷ Refused 5
-    ∷ Refused 6
-    ∷ Refused 6
-    ∷ Refused 7
-    ∷ Refused 6
-    ∷ []
-unfolding codeField key digits isCode country
-code-fields = refl
-
--- A line's code: its digit count, 1 to 15, and its value. Gives its key.
-unfoldable pub readCode : ℕ → ℕ → List ℕ → ℕ → Number
-readCode named before s at =
-    andThen (readRanged s at 1 mostDigits) (λ count at. andThen (readNumber s at) (codeField named before count) Refused) Refused
-
--- The offer of a rate and its increments: above the dearest open rate it is a block, and its increments are dropped. A price
--- out of range is not reached: decimals and mantissa are read within their ranges.
-abbrev pub offered : Priced → ℕ → ℕ → Offer
-offered (priced.Open r) first next = Open r first next
-offered priced.Block first next = Blocked
-offered priced.OutOfRange first next = Blocked
-
--- The increments after a rate: first and next, 1 to 255 seconds each.
-unfoldable pub readIncrements : ℕ → ℕ → List ℕ → ℕ → Terms
-readIncrements mantissa decimals s at =
-    andThen (readRanged s at 1 mostSeconds)
-    (λ first at. andThen (readRanged s at 1 mostSeconds)
-    (λ next at. terms.Offered (offered (priceOf mantissa decimals) first next) at)
-    terms.Refused)
-    terms.Refused
-
--- A rate's fields: decimals 0 to 12, mantissa 0 to 10^10, and its increments.
-unfoldable pub readRate : List ℕ → ℕ → Terms
-readRate s at =
-    andThen (readRanged s at 0 mostDecimals)
-    (λ decimals at. andThen (readRanged s at 0 mostMantissa)
-    (λ mantissa at. readIncrements mantissa decimals s at)
-    terms.Refused)
-    terms.Refused
-
--- What follows a status: 0 deletes, 1 blocks, 2 has a rate; another is refusal 3.
-abbrev pub statusField : List ℕ → ℕ → ℕ → Terms
-statusField s status at =
-    cond (eqb status deletes) (terms.Offered Closed at)
-    (cond (eqb status blocks) (terms.Offered Blocked at)
-    (cond (eqb status hasRate) (readRate s at) (terms.Refused unknownKind)))
-
--- A line's status, and its rate where it has one.
-unfoldable pub readTerms : List ℕ → ℕ → Terms
-readTerms s at = andThen (readNumber s at) (statusField s) terms.Refused
 
 -- A line's last field, listed day plus one, or 0 for none: 0 to 65,001 (4), and in a replacement as in the line before (8).
 unfoldable pub listedField : ℕ → ℕ → ℕ → ℕ → ℕ → Number
@@ -228,35 +126,16 @@ unfolding readLine readCode codeField readTerms readRate readIncrements readList
     readRanged readNumber key digits isCode country priceOf
 plain-lines = refl
 
--- no byte, and 0 in two bytes; a digit count of 0 and of 16, a value above its digits; status 3; 13 decimals, a mantissa above
--- 10^10; a first increment of 0, a next one of 256; a last field of 65,002; no last field
+-- no byte, and 0 in two bytes; a digit count of 0; status 3; a last field of 65,002; no last field
 lines-refused :
     readLine 0 0 0 []
     ∷ readLine 0 0 0 (128 ∷ 0 ∷ [])
     ∷ readLine 0 0 0 (0 ∷ [])
-    ∷ readLine 0 0 0 (16 ∷ [])
-    ∷ readLine 0 0 0 (1 ∷ 10 ∷ [])
     ∷ readLine 0 0 0 (1 ∷ 1 ∷ 3 ∷ [])
-    ∷ readLine 0 0 0 (1 ∷ 1 ∷ 2 ∷ 13 ∷ [])
-    ∷ readLine 0 0 0 (1 ∷ 1 ∷ 2 ∷ 0 ∷ 129 ∷ 200 ∷ 175 ∷ 160 ∷ 37 ∷ [])
-    ∷ readLine 0 0 0 (1 ∷ 1 ∷ 2 ∷ 0 ∷ 0 ∷ 0 ∷ [])
-    ∷ readLine 0 0 0 (1 ∷ 1 ∷ 2 ∷ 0 ∷ 0 ∷ 1 ∷ 128 ∷ 2 ∷ [])
     ∷ readLine 0 0 0 (1 ∷ 1 ∷ 0 ∷ 234 ∷ 251 ∷ 3 ∷ [])
     ∷ readLine 0 0 0 (1 ∷ 1 ∷ 0 ∷ [])
     ∷ []
-    ≡ line.Refused 1
-    ∷ line.Refused 2
-    ∷ line.Refused 4
-    ∷ line.Refused 4
-    ∷ line.Refused 4
-    ∷ line.Refused 3
-    ∷ line.Refused 4
-    ∷ line.Refused 4
-    ∷ line.Refused 4
-    ∷ line.Refused 4
-    ∷ line.Refused 4
-    ∷ line.Refused 1
-    ∷ []
+    ≡ line.Refused 1 ∷ line.Refused 2 ∷ line.Refused 4 ∷ line.Refused 3 ∷ line.Refused 4 ∷ line.Refused 1 ∷ []
 unfolding readLine readCode codeField readTerms readRate readIncrements readListed listedField
     readRanged readNumber key digits isCode country priceOf
 lines-refused = refl

@@ -18,10 +18,10 @@ use Rattle.dial_code.proofs.DigitLaws.{value-below, digits-value, number-facts,
 use Rattle.country_code.proofs.CountryLaws.{of-digits}
 use Rattle.allowed_code.proofs.CodeLaws.{country-test}
 use Rattle.allowed_code.proofs.SentBack.{own-digits}
-use Rattle.notice.specs.NoticeRule.{isCountryCode}
+use Rattle.notice_header.specs.HeaderRule.{isCountryCode}
 use Rattle.notice_writing.specs.Layout.{countryCount}
 use Rattle.varint.proofs.Links.{yes-case}
-use Rattle.notice.proofs.Countries.{code-facts, country-opens, digits-take, first-some, value-least, test-opens}
+use Rattle.notice_header.proofs.Countries.{code-facts, country-opens, digits-take, first-some, value-least, test-opens}
 
 -- The country code of a digit string by its first digits.
 one-digit : (a : ℕ) (s : List ℕ) → oneDigit a ≡ true → countryDigits (a ∷ s) ≡ 1

@@ -30,15 +30,17 @@ use Rattle.rate.specs.declared.Offer.the-variants.{Closed, Blocked, Open}
 use Rattle.rate.proofs.Prices.{exact, open-to-dearest}
 use Rattle.rate.proofs.Words.{parts}
 use Rattle.varint.specs.Ranged.{readRanged}
-use Rattle.notice_line.specs.LineRule.{isCountry, offered, readCode, readIncrements, readRate, readTerms}
+use Rattle.line_terms.specs.TermsRule.{offered, readIncrements, readRate, readTerms}
+use Rattle.line_code.specs.CodeRule.{isCountry, readCode}
 use Rattle.notice_line.specs.LineRule.{listedField, readListed, readLine}
 use Rattle.notice_writing.specs.Layout.{offerFields, encodeLine}
 use Rattle.notice_line.specs.declared.Line.{Line}
 use Rattle.notice_line.specs.declared.LineRead.the-variants as line
-use Rattle.notice_line.specs.declared.Terms.the-variants as terms
+use Rattle.line_terms.specs.declared.Terms.the-variants as terms
 use Rattle.varint.proofs.Links.{on-value, yes-case}
-use Rattle.notice_line.proofs.Links.{on-offered, or-left, or-yes}
-use Rattle.notice_line.proofs.Codes.{code-tests}
+use Rattle.line_code.proofs.Links.{or-left, or-yes}
+use Rattle.line_code.proofs.Codes.{code-tests}
+use Rattle.notice_line.proofs.Links.{on-offered}
 use Rattle.notice_writing.proofs.LayoutLaws.{line-opens, line-bytes}
 use Rattle.notice_line.proofs.LineLaws.{ValidLine}
 

@@ -15,16 +15,16 @@ use Rattle.varint_encoding.specs.Encoding.{encode}
 use Rattle.varint.specs.declared.Number.the-variants.{Value}
 use Rattle.varint_encoding.proofs.Several.{bytes-nil}
 use Rattle.dial_code.proofs.Tests.{and-left-true}
-use Rattle.notice.specs.NoticeRule.{readCountry, readNamed, headerOf, readDated, readHeader}
+use Rattle.notice_header.specs.HeaderRule.{readCountry, readNamed, headerOf, readDated, readHeader}
 use Rattle.notice.specs.NoticeRule.{Lines, lines, withLine, withFirst, readLines}
 use Rattle.notice.specs.NoticeRule.{Notice, Reading, notice, withHeader, withLines, readNotice}
 use Rattle.notice_writing.specs.Layout.{countryCount, headerFields, encodeHeader, encodeLine, encodeLines, encodeNotice}
 use Rattle.notice_line.specs.declared.Line.{Line}
 use Rattle.notice_line.specs.declared.LineRead.{LineRead}
 use Rattle.notice_line.specs.declared.LineRead.the-variants as line
-use Rattle.notice.specs.declared.Header.{Header}
-use Rattle.notice.specs.declared.HeaderRead.{HeaderRead}
-use Rattle.notice.specs.declared.HeaderRead.the-variants as header
+use Rattle.notice_header.specs.declared.Header.{Header}
+use Rattle.notice_header.specs.declared.HeaderRead.{HeaderRead}
+use Rattle.notice_header.specs.declared.HeaderRead.the-variants as header
 use Rattle.varint.proofs.Links.{on-value, yes-case, no-case}
 use Rattle.notice_writing.proofs.LayoutLaws.{lines-nil, lines-cons, header-bytes, notice-bytes}
 use Rattle.notice_writing.proofs.CountryCodes.{CountryValue, country-value}

@@ -16,9 +16,10 @@ use Rattle.rate.specs.Price.{rate, priceOf}
 use Rattle.rate.specs.declared.Offer.{Offer}
 use Rattle.rate.specs.declared.Offer.the-variants.{Closed, Blocked, Open}
 use Rattle.varint.specs.Ranged.{readRanged}
-use Rattle.notice_line.specs.LineRule.{deletes, blocks, hasRate, lineOf, codeField, readCode, readIncrements, readRate, readTerms}
-use Rattle.notice_line.specs.LineRule.{listedField, readListed, readLine}
-use Rattle.notice.specs.NoticeRule.{replacement, isCountryCode, readCountry, readNamed, readDated, readHeader}
+use Rattle.line_terms.specs.TermsRule.{deletes, blocks, hasRate, readIncrements, readRate, readTerms}
+use Rattle.line_code.specs.CodeRule.{codeField, readCode}
+use Rattle.notice_line.specs.LineRule.{lineOf, listedField, readListed, readLine}
+use Rattle.notice_header.specs.HeaderRule.{replacement, isCountryCode, readCountry, readNamed, readDated, readHeader}
 use Rattle.notice.specs.NoticeRule.{readLines, Notice, notice, readNotice}
 use Rattle.notice_line.specs.declared.Line.{Line}
 

@@ -35,7 +35,7 @@ fn header_fields(kind: u64, received: u64, country: u64, lines: u64) -> Fields
     ensures { λ r. ⌜ r .count ≤ length (r .numbers) ⌝ }
     ensures { λ r. ⌜ take (r .count) (r .numbers) ≡ headerFields kind received country lines ⌝ }
 {
-    if kind == notice::REPLACEMENT {
+    if kind == notice_header::REPLACEMENT {
         let digits = country_count(country);
         return Fields {
             numbers: [kind, received, digits, country, lines],
@@ -102,11 +102,11 @@ pub fn write_line(out: &mut [u8], at: usize, line: Line) -> Written
     let offer = line.offer;
     match offer {
         Offer::Closed => {
-            let fields = [code.count, code.value, notice_line::DELETES, listed];
+            let fields = [code.count, code.value, line_terms::DELETES, listed];
             varint_writing::write_numbers(out, at, &fields)
         }
         Offer::Blocked => {
-            let fields = [code.count, code.value, notice_line::BLOCKS, listed];
+            let fields = [code.count, code.value, line_terms::BLOCKS, listed];
             varint_writing::write_numbers(out, at, &fields)
         }
         Offer::Open { rate, first, next } => {
@@ -114,7 +114,7 @@ pub fn write_line(out: &mut [u8], at: usize, line: Line) -> Written
             let fields = [
                 code.count,
                 code.value,
-                notice_line::HAS_RATE,
+                line_terms::HAS_RATE,
                 SENT_DECIMALS,
                 price,
                 first as u64,

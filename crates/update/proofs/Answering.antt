@@ -7,7 +7,8 @@ use native.Mathlib.Omega.{arith}
 use borrow.Author.Tests.{lt-ltb, le-ltb, leb-true, eq-eqb, ne-eqb}
 use lib.Dec.{leb}
 use lib.ListN.{length}
-use Rattle.notice.specs.NoticeRule.{mostLines, Notice, notice, unread, readNotice, checkNotice}
+use Rattle.notice_header.specs.HeaderRule.{mostLines}
+use Rattle.notice.specs.NoticeRule.{Notice, notice, unread, readNotice, checkNotice}
 use Rattle.notice.specs.declared.Summary.{Summary}
 use Rattle.notice.specs.declared.Checked.the-variants as checked
 use Rattle.notice.proofs.Checking.{Passed, check-passed, check-refused}

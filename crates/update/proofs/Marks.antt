@@ -18,7 +18,8 @@ use Rattle.country_code.specs.declared.Country.the-variants.{Code, None}
 use Rattle.dial_code.proofs.Tests.{both, and-left-true}
 use Rattle.dial_code.proofs.DigitLaws.{value-below}
 use Rattle.longest_match.proofs.Matching.{word-digits}
-use Rattle.notice.specs.NoticeRule.{Notice, full, partial, replacement}
+use Rattle.notice.specs.NoticeRule.{Notice}
+use Rattle.notice_header.specs.HeaderRule.{full, partial, replacement}
 use Rattle.notice_line.specs.declared.Line.{Line}
 use Rattle.notice.specs.declared.Summary.{Summary}
 use Rattle.history.specs.Effect.{sameCountry, namedBy, inCountry, closes}

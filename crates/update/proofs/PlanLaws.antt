@@ -10,7 +10,8 @@ use borrow.Author.Tests.{lt-ltb, le-ltb, ltb-true, ltb-false, eqb-true}
 use lib.Dec.{eqb, ltb}
 use lib.ListN.{length}
 use Rattle.calendar.specs.Time.{lastDay}
-use Rattle.notice.specs.NoticeRule.{Notice, replacement, earliest}
+use Rattle.notice.specs.NoticeRule.{Notice, earliest}
+use Rattle.notice_header.specs.HeaderRule.{replacement}
 use Rattle.notice_line.specs.declared.Line.{Line}
 use Rattle.notice.specs.declared.Summary.{Summary}
 use Rattle.notice.proofs.LinesLaws.{ValidFrom}

@@ -4,7 +4,7 @@ use mathlib.Core.Bool.{true}
 use Prim.Native.Nat.{ℕ, _+_, max}
 use borrow.Author.Tests.{eq-eqb, ne-eqb}
 use lib.Dec.{ltb}
-use Rattle.notice.specs.NoticeRule.{replacement}
+use Rattle.notice_header.specs.HeaderRule.{replacement}
 use Rattle.notice.specs.declared.Summary.{Summary}
 use Rattle.update.specs.Plans.{earliestWanted, planOf}
 

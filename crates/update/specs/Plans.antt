@@ -2,7 +2,7 @@
 use mathlib.Core.Bool.{cond, _||_}
 use Prim.Native.Nat.{ℕ, _+_, max}
 use lib.Dec.{eqb, ltb}
-use Rattle.notice.specs.NoticeRule.{replacement}
+use Rattle.notice_header.specs.HeaderRule.{replacement}
 use Rattle.notice.specs.declared.Summary.{Summary}
 use Rattle.effect.specs.declared.Plan.{Plan}
 

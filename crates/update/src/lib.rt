@@ -6,7 +6,8 @@ ghost use Prim.Native.Nat.{_+_, _*_, _≤_};
 ghost use lib.Dec.{leb};
 ghost use lib.ListN.{length};
 ghost use Rattle.calendar.specs.Time.{lastReceivedDay};
-ghost use Rattle.notice.specs.NoticeRule.{mostLines, checkNotice};
+ghost use Rattle.notice_header.specs.HeaderRule.{mostLines};
+ghost use Rattle.notice.specs.NoticeRule.{checkNotice};
 ghost use Rattle.notice.specs.declared.Checked.the-variants.{Notice};
 ghost use Rattle.book_words.specs.Layout.{headerWords, entryWords, mostPeriod, held, bookOf, periodOf, latestOf};
 ghost use Rattle.book.specs.Soundness.{sound};
@@ -83,7 +84,7 @@ fn plan_of(m: Summary, period: u64, latest: u64) -> Plan
 {
     let floor = m.received + period;
     let wanted = effect::later(m.received, m.earliest);
-    if m.kind == notice::REPLACEMENT {
+    if m.kind == notice_header::REPLACEMENT {
         return Plan {
             kind: m.kind,
             country: m.country,

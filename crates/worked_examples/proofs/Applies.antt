@@ -16,7 +16,8 @@ use Rattle.calendar.specs.declared.Day.{Day}
 use Rattle.charging.specs.Charging.{chargeOf}
 use Rattle.rate.specs.declared.Offer.the-variants.{Closed, Open}
 use Rattle.charging.specs.declared.Charged.the-variants as charged
-use Rattle.notice.specs.NoticeRule.{Notice, notice, readNotice, readHeader}
+use Rattle.notice.specs.NoticeRule.{Notice, notice, readNotice}
+use Rattle.notice_header.specs.HeaderRule.{readHeader}
 use Rattle.book_words.specs.Layout.{headerWords, entryWords, held}
 use Rattle.longest_match.specs.Match.{answer, matched}
 use Rattle.book.specs.Answers.{freshRefusal, freshBook}

@@ -16,9 +16,11 @@ use Rattle.rate.specs.OfferWord.{wordOf, offerOf}
 use Rattle.rate.specs.declared.Offer.{Offer}
 use Rattle.rate.specs.declared.Offer.the-variants.{Closed, Open}
 use Rattle.varint.specs.Ranged.{readRanged}
-use Rattle.notice_line.specs.LineRule.{lineOf, codeField, readCode, readIncrements, readRate, readTerms, listedField, readListed}
-use Rattle.notice_line.specs.LineRule.{readLine}
-use Rattle.notice.specs.NoticeRule.{Notice, notice, isCountryCode, readCountry, readNamed, readDated, readHeader}
+use Rattle.line_terms.specs.TermsRule.{readIncrements, readRate, readTerms}
+use Rattle.line_code.specs.CodeRule.{codeField, readCode}
+use Rattle.notice_line.specs.LineRule.{lineOf, listedField, readListed, readLine}
+use Rattle.notice_header.specs.HeaderRule.{isCountryCode, readCountry, readNamed, readDated, readHeader}
+use Rattle.notice.specs.NoticeRule.{Notice, notice}
 use Rattle.notice.specs.NoticeRule.{readLines, readNotice}
 use Rattle.notice_line.specs.declared.Line.{Line}
 use Rattle.book_words.specs.Layout.{entry}

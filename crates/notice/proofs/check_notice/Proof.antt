@@ -1,9 +1,9 @@
 -- `notice::check_notice` meets its contract: a header that is read has its first line within the bytes. Assumes nothing.
 use mathlib.Core.Path.{_≡_, sym, _∙_}
 use borrow.Author.Needs.{needs}
-use Rattle.notice.specs.NoticeRule.{readHeader}
-use Rattle.notice.specs.declared.HeaderRead.the-variants as header
-use Rattle.notice.proofs.HeaderLaws.{header-spans}
+use Rattle.notice_header.specs.HeaderRule.{readHeader}
+use Rattle.notice_header.specs.declared.HeaderRead.the-variants as header
+use Rattle.notice_header.proofs.HeaderLaws.{header-spans}
 use Rattle.notice.proofs.Checking.{check-header, check-lines, check-all}
 use Rattle.notice.proofs.check_notice.Statement.{statement}
 use Rattle.notice.proofs.check_notice.Tie as tie

@@ -4,8 +4,10 @@ use borrow.Author.Needs.{needs}
 use Rattle.varint.proofs.Links.{on-value, on-refused}
 use Rattle.notice_line.proofs.Links.{on-offered, on-no-terms}
 use Rattle.varint.specs.declared.Number.the-variants.{Value}
-use Rattle.notice_line.specs.LineRule.{readCode, readTerms, readLine}
-use Rattle.notice_line.specs.declared.Terms.the-variants as terms
+use Rattle.line_terms.specs.TermsRule.{readTerms}
+use Rattle.line_terms.specs.declared.Terms.the-variants as terms
+use Rattle.line_code.specs.CodeRule.{readCode}
+use Rattle.notice_line.specs.LineRule.{readLine}
 use Rattle.notice_line.proofs.read_line.Statement.{statement}
 use Rattle.notice_line.proofs.read_line.Tie as tie
 

@@ -3,7 +3,7 @@ use mathlib.Core.Path.{_≡_, sym, _∙_}
 use borrow.Author.Needs.{needs}
 use borrow.Author.Tests.{le-leb, lt-leb, eq-eqb, ne-eqb}
 use Rattle.varint.proofs.Links.{on-value, on-refused, yes-case, no-case}
-use Rattle.notice_line.proofs.Links.{or-left, or-right}
+use Rattle.line_code.proofs.Links.{or-left, or-right}
 use Rattle.varint.specs.declared.Number.the-variants.{Value}
 use Rattle.varint.specs.Reading.{readNumber}
 use Rattle.notice_line.specs.LineRule.{listedField, readListed}

@@ -1,0 +1,2 @@
+-- The rule of a line's code.
+pub mod CodeRule

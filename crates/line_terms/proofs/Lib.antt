@@ -1,0 +1,2 @@
+-- The laws of a line's status and rate.
+pub mod TermsLaws

@@ -1,0 +1,2 @@
+-- The rule of a line's status and rate.
+pub mod TermsRule
