@@ -26,9 +26,9 @@ use Rattle.notice_writing.proofs.Sizes.{header-encodable, header-sized}
 use Rattle.book_words.specs.Layout.{entriesOf}
 use Rattle.book.specs.Soundness.{sound}
 use Rattle.book.specs.Answers.{bookRefusal}
+use Rattle.standing.proofs.Sizes.{mostLine, none-few, one-few}
 use Rattle.listing.specs.List.{standingLines, standingNotice, listOf, listRefusal, listed, listAnswer, listBytes}
 use Rattle.listing.specs.declared.Listed.{Listed}
-use Rattle.listing.proofs.Sizes.{mostLine, none-few, one-few}
 use Rattle.listing.proofs.Turns.{written, few}
 use Rattle.listing.proofs.Validity.{list-valid}
 

@@ -1,6 +1,5 @@
 -- The laws of the standing list.
 pub mod Passing
-pub mod Sizes
 pub mod Turns
 pub mod Validity
 pub mod Answering

@@ -20,16 +20,8 @@ use Rattle.longest_match.specs.Match.{isStanding}
 use Rattle.book_words.specs.declared.Entry.{Entry}
 use Rattle.book.proofs.SoundLists.{After, same, next, Allowed, SoundFrom, Sound, after-key}
 use Rattle.book.proofs.Statuses.{smaller, begins-later}
+use Rattle.standing.specs.Pass.{isReplaced, stands, offerAt, entryLine, addedBy, passed}
 use Rattle.listing.specs.List.{codesOf, codeLine, linesFor, standingLines}
-use Rattle.listing.specs.Pass.{isReplaced, stands, entryLine, addedBy}
-
--- What each entry adds, one after the other.
-unfoldable pub passed : List Entry → ℕ → List Line
-passed [] day = []
-passed (e ∷ es) day = addedBy e es day ++ passed es day
-
-abbrev pub offerAt : ℕ → Offer
-offerAt w = heldOffer (offerOf w)
 
 -- An offer word stands where it is not 0.
 stands-word : (w : ℕ) → isOfferWord w ≡ true → isStanding (offerAt w) ≡ not (eqb w 0)

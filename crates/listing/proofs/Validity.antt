@@ -20,10 +20,10 @@ use Rattle.book.specs.Soundness.{sound}
 use Rattle.book_words.specs.declared.Entry.{Entry}
 use Rattle.book.proofs.SoundLists.{After, same, next, Allowed, SoundFrom, Sound, entries-sound}
 use Rattle.book.proofs.Statuses.{Before, smaller, earlier, before-on, before-after}
+use Rattle.standing.specs.Pass.{isReplaced, stands, entryLine, addedBy, passed}
+use Rattle.standing.proofs.Sizes.{offer-in-range, adds-none, adds-one}
 use Rattle.listing.specs.List.{standingLines, standingNotice}
-use Rattle.listing.specs.Pass.{isReplaced, stands, entryLine, addedBy}
-use Rattle.listing.proofs.Passing.{passed, in-one-pass}
-use Rattle.listing.proofs.Sizes.{offer-in-range, adds-none, adds-one}
+use Rattle.listing.proofs.Passing.{in-one-pass}
 use Rattle.listing.proofs.Turns.{few}
 
 -- what an entry that stands shows

@@ -1,3 +1,2 @@
--- The rules of the standing list. No public contract cites Pass, which is how the list is worked entry by entry.
+-- The rules of the standing list.
 pub mod List
-pub mod Pass

@@ -1,7 +1,7 @@
 // The standing list of a day (document 01, "Charging and writing").
 ghost use mathlib.Core.Path.{_≡_};
-ghost use mathlib.Core.Bool.{true, false};
-ghost use Prim.Native.Nat.{_+_, _-_, _*_, _≤_, _<_};
+ghost use mathlib.Core.Bool.{true};
+ghost use Prim.Native.Nat.{_+_, _≤_, _<_};
 ghost use lib.Dec.{leb};
 ghost use lib.ListN.{length};
 ghost use lib.Seq.{sets};
@@ -9,13 +9,10 @@ ghost use Rattle.calendar.specs.Time.{isReceivedDay};
 ghost use Rattle.notice_writing.specs.Layout.{encodeLines};
 ghost use Rattle.book_words.specs.Layout.{entriesFrom, entriesOf};
 ghost use Rattle.book.specs.Soundness.{sound};
+ghost use Rattle.standing.specs.Pass.{addedBy};
 ghost use Rattle.listing.specs.List.{standingLines, listOf, listed, listAnswer, listBytes};
-ghost use Rattle.listing.specs.Pass.{stands, entryLine, addedBy};
 use book_words::Entry;
 use calendar::Day;
-use notice_line::Line;
-use rate::Offer;
-use rate::Stored;
 use varint_writing::Written;
 
 // What writing a list answers: a refusal number or 0, and the list's length, 0 with a refusal.
@@ -36,65 +33,6 @@ fn refused(e: u64) -> Listed
     }
 }
 
-// Whether an entry is its code's status on a day, and that is not closed. The `left` entries at `at` are those after it.
-fn is_standing(words: &[u64], at: u32, left: usize, e: Entry, day: u64) -> bool
-    ensures { λ r. ⌜ r ≡ stands e (entriesFrom (now (words .entry)) at left) day ⌝ }
-{
-    if day < e.day {
-        return false;
-    }
-    if e.offer == 0 {
-        return false;
-    }
-    if left == 0 {
-        return true;
-    }
-    let next = book_words::entry_at(words, at);
-    if e.key != next.key {
-        return true;
-    }
-    day < next.day
-}
-
-// The line of an entry: it has no listed day.
-fn line_of(e: Entry) -> Line
-    ensures { λ r. ⌜ r ≡ entryLine e ⌝ }
-{
-    match rate::word_offer(e.offer) {
-        Stored::Holds(offer) => Line {
-            key: e.key,
-            offer,
-            listed: 0,
-        },
-        // No entry of a sound book has such a word.
-        Stored::Invalid => Line {
-            key: e.key,
-            offer: Offer::Closed,
-            listed: 0,
-        },
-    }
-}
-
-// How many lines an entry adds to the list.
-fn added_lines(words: &[u64], at: u32, left: usize, e: Entry, day: u64) -> usize
-    ensures { λ r. ⌜ r ≡ length (addedBy e (entriesFrom (now (words .entry)) at left) day) ⌝ }
-{
-    if !is_standing(words, at, left, e, day) {
-        return 0;
-    }
-    1
-}
-
-// How many bytes an entry adds to the list.
-fn added_size(words: &[u64], at: u32, left: usize, e: Entry, day: u64) -> usize
-    ensures { λ r. ⌜ r ≡ length (encodeLines (addedBy e (entriesFrom (now (words .entry)) at left) day)) ⌝ }
-{
-    if !is_standing(words, at, left, e, day) {
-        return 0;
-    }
-    notice_writing::line_size(line_of(e))
-}
-
 // Writes what an entry adds to the list at a place of the lent bytes, and gives the place after it.
 fn write_at(
     words: &[u64],
@@ -110,49 +48,15 @@ fn write_at(
     ensures { λ _. ⌜ now (out .exit) ≡ sets (now (out .entry)) from
         (encodeLines (addedBy e (entriesFrom (now (words .entry)) at left) day)) ⌝ }
 {
-    if !is_standing(words, at, left, e, day) {
+    if !standing::is_standing(words, at, left, e, day) {
         return from;
     }
-    match notice_writing::write_line(out, from, line_of(e)) {
+    match notice_writing::write_line(out, from, standing::line_of(e)) {
         Written::UpTo(end) => end,
         // The caller has seen to the room, and every field of a line has an encoding.
         Written::NoRoom => from,
         Written::TooLarge => from,
     }
-}
-
-// How many lines the list has. No key is taken apart.
-fn count_lines(words: &[u64], day: u64) -> usize
-    requires { ⌜ sound (now words) ≡ true ⌝ }
-    ensures { λ r. ⌜ r ≡ length (standingLines (entriesOf (now (words .entry))) day) ⌝ }
-{
-    let mut lines: usize = 0;
-    let mut at = book_words::HEADER_WORDS as u32;
-    let mut left = book::headed_count(words);
-    while 0 < left {
-        let e = book_words::entry_at(words, at);
-        at += book_words::ENTRY_WORDS as u32;
-        left -= 1;
-        lines += added_lines(words, at, left, e, day);
-    }
-    lines
-}
-
-// How many bytes the lines of the list take.
-fn lines_size(words: &[u64], day: u64) -> usize
-    requires { ⌜ sound (now words) ≡ true ⌝ }
-    ensures { λ r. ⌜ r ≡ length (encodeLines (standingLines (entriesOf (now (words .entry))) day)) ⌝ }
-{
-    let mut size: usize = 0;
-    let mut at = book_words::HEADER_WORDS as u32;
-    let mut left = book::headed_count(words);
-    while 0 < left {
-        let e = book_words::entry_at(words, at);
-        at += book_words::ENTRY_WORDS as u32;
-        left -= 1;
-        size += added_size(words, at, left, e, day);
-    }
-    size
 }
 
 // Whether so many bytes hold the list. Its lines' sizes are added up only where lines of the largest size would not fit.
@@ -165,7 +69,7 @@ fn is_held(words: &[u64], day: Day, lines: usize, room: usize) -> bool
     if header + lines * MOST_LINE <= room {
         return true;
     }
-    header + lines_size(words, day.0) <= room
+    header + standing::lines_size(words, day.0) <= room
 }
 
 // Writes the lines of the list from a place of the lent bytes on, and gives the place after them.
@@ -217,7 +121,7 @@ pub fn write_list(words: &[u64], day: Day, out: &mut [u8]) -> Listed
     if !day.can_be_received() {
         return refused(refusal::TIME_OUT_OF_RANGE);
     }
-    let lines = count_lines(words, day.0);
+    let lines = standing::count_lines(words, day.0);
     if lines == 0 {
         return refused(refusal::NO_OFFER);
     }

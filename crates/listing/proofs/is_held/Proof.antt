@@ -1,5 +1,6 @@
 -- is_held meets its contract: lines of the largest size leave room, or the sizes added up tell. Assumes nothing.
-use mathlib.Core.Path.{_≡_, ap, sym}
+use mathlib.Core.Path.{_≡_, ap, sym, _∙_}
+use mathlib.Core.List.{List}
 use Prim.Native.Nat.{ℕ, _+_, _*_, _≤_}
 use native.Mathlib.Omega.{arith}
 use borrow.Author.Needs.{needs}
@@ -10,9 +11,10 @@ use Rattle.listing.proofs.is_held.Statement.{statement}
 use Rattle.listing.proofs.is_held.Tie as tie
 use Rattle.notice_writing.specs.Layout.{encodeLines}
 use Rattle.book_words.specs.Layout.{mostEntries, entriesOf}
+use Rattle.notice_line.specs.declared.Line.{Line}
+use Rattle.standing.proofs.Sizes.{mostLine}
 use Rattle.listing.specs.List.{standingLines, listOf}
-use Rattle.listing.proofs.Sizes.{mostLine}
-use Rattle.listing.proofs.Turns.{few}
+use Rattle.listing.proofs.Turns.{whole, few}
 use Rattle.listing.proofs.Answering.{list-size}
 
 -- the header's size, the lines' and the list's
@@ -28,6 +30,14 @@ sized c =
     let f = few _ (c .before .before .args .day .0) (p .0 .0) in
     let z = list-size _ _ (p .0 .0) (p .0 .1) (omega (arith, p .1 .0, p .1 .1)) (p .1 .0) (c .header-size .ensures) in
     (omega (arith, f .0, p .1 .0), omega (arith, f .1, p .1 .0), z .0, z .1)
+
+-- the lines' size as it is added up
+added-up : (c : tie.After-lines-size) →
+    let a = c .before .before .before .before .args in
+    c .lines-size .result ≡ length (encodeLines (standingLines (entriesOf (a .words .now)) (a .day .0)))
+added-up c =
+    c .lines-size .ensures
+    ∙ sym (ap (λ (ls : List Line). length (encodeLines ls)) (whole _ _ (c .before .before .before .before .pre .0 .0)))
 
 header-size-requires : tie.Need-header-size-requires
 header-size-requires c κs = search needs
@@ -48,12 +58,12 @@ lines-size-requires : tie.Need-lines-size-requires
 lines-size-requires c κs = search needs
 
 add-result : tie.Need-add-result
-add-result c = let z = sized (c .before .before) in omega (arith, z .0, z .1, z .2, c .lines-size .ensures)
+add-result c = let z = sized (c .before .before) in omega (arith, z .0, z .1, z .2, added-up c)
 
 returns-2 : tie.Need-returns-2
 returns-2 c =
     ap (λ (n : ℕ). leb n (c .before .before .before .before .args .room))
-    (omega (arith, sized (c .before .before) .3, c .lines-size .ensures))
+    (omega (arith, sized (c .before .before) .3, added-up c))
 
 pub is-held-spec : {M : Type 1} → statement M
 is-held-spec =

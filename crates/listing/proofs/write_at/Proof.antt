@@ -11,7 +11,7 @@ use lib.ListN.{length}
 use Rattle.varint_writing.specs.declared.Written.the-variants.{UpTo}
 use Rattle.notice_writing.specs.Layout.{encodeLines}
 use Rattle.book_words.specs.Layout.{entriesFrom}
-use Rattle.listing.specs.Pass.{addedBy}
+use Rattle.standing.specs.Pass.{addedBy}
 use mathlib.Core.Path.{_≡_}
 
 -- the line of an entry that stands is written

@@ -12,8 +12,9 @@ use Rattle.notice_writing.specs.Layout.{encodeLines}
 use Rattle.book_words.specs.Layout.{mostWords, entryWords, entriesFrom, entriesOf}
 use Rattle.book.proofs.Headers.{sound-book, sound-count}
 use Rattle.listing.specs.List.{standingLines}
-use Rattle.listing.proofs.Passing.{passed}
-use Rattle.listing.proofs.Turns.{length-row, puts, none-left, whole}
+use Rattle.standing.specs.Pass.{passed}
+use Rattle.standing.proofs.Turns.{length-row, none-left, starts}
+use Rattle.listing.proofs.Turns.{puts, whole}
 use lib.Seq.{sets}
 use Rattle.notice_line.specs.declared.Line.{Line}
 use Rattle.notice_writing.proofs.LayoutLaws.{lines-nil}
@@ -37,7 +38,7 @@ loop-holds : tie.Need-loop-holds Inv-loop μ-loop
 loop-holds c =
     let a = c .before .before .before .args in
     let s = c .before .before .before .pre .0 in
-    let w = whole (a .words .now) (a .day) s (c .headed-count .ensures) in (
+    let w = whole _ (a .day) s ∙ starts (a .words .now) (a .day) (c .headed-count .ensures) in (
       omega (arith, sound-book _ s .header .count-most, sound-count _ s, c .headed-count .ensures),
       refl,
       omega (arith, ap (λ (l : List Line). length (encodeLines l)) w),

@@ -1,5 +1,5 @@
 -- write_list meets its contract: a refusal leaves the bytes as they were, any other call writes the list. Assumes nothing.
-use mathlib.Core.Path.{_≡_, sym, _∙_}
+use mathlib.Core.Path.{_≡_, ap, sym, _∙_}
 use mathlib.Core.Bool.{true}
 use Prim.Native.Nat.{_≤_}
 use native.Mathlib.Omega.{arith}
@@ -11,6 +11,7 @@ use Rattle.calendar.specs.Time.{isReceivedDay}
 use Rattle.book.specs.Answers.{bookRefusal}
 use Rattle.book.proofs.Usable.{usable-sound}
 use borrow.Author.Tests.{not-true, not-false, leb-true, leb-false}
+use Rattle.listing.proofs.Turns.{whole}
 use Rattle.listing.proofs.Answering.{no-book, no-day, no-line, no-room, has-room, refused, done}
 use Rattle.dial_code.proofs.Tests.{positive}
 use Rattle.book_words.specs.Layout.{entriesOf}
@@ -28,7 +29,7 @@ ready : (c : tie.After-count-lines) →
 ready c = (
   usable (c .before .before .before),
   sym (c .before .before .can-be-received .ensures) ∙ not-false _ (c .before .if2 .left),
-  c .count-lines .ensures,
+  c .count-lines .ensures ∙ sym (ap length (whole _ _ (usable-sound _ (usable (c .before .before .before))))),
 )
 
 -- past the last the list fits
@@ -66,7 +67,7 @@ returns-2 c =
     (λ z. omega arith)
 
 count-lines-requires : tie.Need-count-lines-requires
-count-lines-requires c κs = usable-sound _ (usable (c .before .before))
+count-lines-requires c κs = search needs
 
 refused-requires-3 : tie.Need-refused-requires-3
 refused-requires-3 c κs = search needs

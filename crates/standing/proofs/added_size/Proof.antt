@@ -2,9 +2,9 @@
 use mathlib.Core.Path.{sym, _∙_}
 use borrow.Author.Needs.{needs}
 use borrow.Author.Tests.{not-true, not-false}
-use Rattle.listing.proofs.added_size.Statement.{statement}
-use Rattle.listing.proofs.added_size.Tie as tie
-use Rattle.listing.proofs.Turns.{none-added, size-added}
+use Rattle.standing.proofs.added_size.Statement.{statement}
+use Rattle.standing.proofs.added_size.Tie as tie
+use Rattle.standing.proofs.Turns.{none-added, size-added}
 
 is-standing-requires : tie.Need-is-standing-requires
 is-standing-requires c κs = search needs

@@ -1,4 +1,4 @@
--- lines_size meets its contract. The loop's invariant: what is added up and what the entries left add come to the list's bytes.
+-- lines_size meets its contract. The loop's invariant: what is added up and what the entries left add come to the bytes of all.
 -- The measure is the number of entries left. Assumes nothing.
 use mathlib.Core.Path.{_≡_, ap}
 use mathlib.Core.List.{List}
@@ -6,22 +6,21 @@ use Prim.Native.Nat.{_+_, _-_, _*_, _≤_}
 use native.Mathlib.Omega.{arith}
 use borrow.Author.Needs.{needs}
 use lib.ListN.{length}
-use Rattle.listing.proofs.lines_size.Statement.{statement}
-use Rattle.listing.proofs.lines_size.Tie as tie
+use Rattle.standing.proofs.lines_size.Statement.{statement}
+use Rattle.standing.proofs.lines_size.Tie as tie
 use Rattle.notice_writing.specs.Layout.{encodeLines}
 use Rattle.notice_line.specs.declared.Line.{Line}
 use Rattle.notice_writing.proofs.LayoutLaws.{lines-nil}
-use Rattle.book_words.specs.Layout.{mostWords, entryWords, entriesFrom, entriesOf}
-use Rattle.book.proofs.Headers.{sound-book, sound-count}
-use Rattle.listing.specs.List.{standingLines}
-use Rattle.listing.proofs.Passing.{passed}
-use Rattle.listing.proofs.Turns.{length-row, none-left, whole, few}
+use Rattle.book_words.specs.Layout.{mostWords, entryWords, entriesFrom}
+use Rattle.book.proofs.Headers.{count-room}
+use Rattle.standing.specs.Pass.{passed, linesBy}
+use Rattle.standing.proofs.Turns.{length-row, none-left, starts, lines-few}
 
 abbrev Inv-loop : tie.InvT-loop
 Inv-loop words day size₀ at₀ left₀ size at left =
     (at + left * entryWords ≤ mostWords)
     × (size + length (encodeLines (passed (entriesFrom words at left) day))
-    ≡ length (encodeLines (standingLines (entriesOf words) day)))
+    ≡ length (encodeLines (linesBy words day)))
 
 abbrev μ-loop : tie.MeasureT-loop
 μ-loop words day size₀ at₀ left₀ size at left = left
@@ -45,9 +44,8 @@ headed-count-requires c κs = search needs
 
 loop-holds : tie.Need-loop-holds Inv-loop μ-loop
 loop-holds c =
-    let s = c .before .before .pre in
-    let w = whole (c .before .before .args .words .now) (c .before .before .args .day) s (c .headed-count .ensures) in
-    (omega (arith, sound-book _ s .header .count-most, sound-count _ s, c .headed-count .ensures), omega (arith, ap (λ (l : List Line). length (encodeLines l)) w))
+    let w = starts (c .before .before .args .words .now) (c .before .before .args .day) (c .headed-count .ensures) in
+    (omega (arith, count-room (c .before .before .args .words .now) .1, c .headed-count .ensures), omega (arith, ap (λ (l : List Line). length (encodeLines l)) w))
 
 entry-at-requires : tie.Need-entry-at-requires Inv-loop μ-loop
 entry-at-requires c κs = search needs
@@ -64,7 +62,7 @@ added-size-requires c κs = search needs
 add-size : tie.Need-add-size Inv-loop μ-loop
 add-size c =
     let p = c .before .before .before .before .before .before in
-    let m = few _ (p .args .day) (p .pre) in
+    let m = lines-few (p .args .words .now) (p .args .day) in
     omega (arith, at-turn c, m .0, m .1)
 
 loop-less : tie.Need-loop-less Inv-loop μ-loop

@@ -1,22 +1,21 @@
--- count_lines meets its contract. The loop's invariant: what is counted and what the entries left add come to the list's lines.
+-- count_lines meets its contract. The loop's invariant: what is counted and what the entries left add come to all lines.
 -- The measure is the number of entries left. Assumes nothing.
 use mathlib.Core.Path.{_≡_, ap}
 use Prim.Native.Nat.{_+_, _-_, _*_, _≤_}
 use native.Mathlib.Omega.{arith}
 use borrow.Author.Needs.{needs}
 use lib.ListN.{length}
-use Rattle.listing.proofs.count_lines.Statement.{statement}
-use Rattle.listing.proofs.count_lines.Tie as tie
-use Rattle.book_words.specs.Layout.{mostWords, entryWords, entriesFrom, entriesOf}
-use Rattle.book.proofs.Headers.{sound-book, sound-count}
-use Rattle.listing.specs.List.{standingLines}
-use Rattle.listing.proofs.Passing.{passed}
-use Rattle.listing.proofs.Turns.{count-row, none-left, whole, few}
+use Rattle.standing.proofs.count_lines.Statement.{statement}
+use Rattle.standing.proofs.count_lines.Tie as tie
+use Rattle.book_words.specs.Layout.{mostWords, entryWords, entriesFrom}
+use Rattle.book.proofs.Headers.{count-room}
+use Rattle.standing.specs.Pass.{passed, linesBy}
+use Rattle.standing.proofs.Turns.{count-row, none-left, starts, lines-few}
 
 abbrev Inv-loop : tie.InvT-loop
 Inv-loop words day lines₀ at₀ left₀ lines at left =
     (at + left * entryWords ≤ mostWords)
-    × (lines + length (passed (entriesFrom words at left) day) ≡ length (standingLines (entriesOf words) day))
+    × (lines + length (passed (entriesFrom words at left) day) ≡ length (linesBy words day))
 
 abbrev μ-loop : tie.MeasureT-loop
 μ-loop words day lines₀ at₀ left₀ lines at left = left
@@ -40,9 +39,8 @@ headed-count-requires c κs = search needs
 
 loop-holds : tie.Need-loop-holds Inv-loop μ-loop
 loop-holds c =
-    let s = c .before .before .pre in
-    let w = whole (c .before .before .args .words .now) (c .before .before .args .day) s (c .headed-count .ensures) in
-    (omega (arith, sound-book _ s .header .count-most, sound-count _ s, c .headed-count .ensures), omega (arith, ap length w))
+    let w = starts (c .before .before .args .words .now) (c .before .before .args .day) (c .headed-count .ensures) in
+    (omega (arith, count-room (c .before .before .args .words .now) .1, c .headed-count .ensures), omega (arith, ap length w))
 
 entry-at-requires : tie.Need-entry-at-requires Inv-loop μ-loop
 entry-at-requires c κs = search needs
@@ -59,7 +57,7 @@ added-lines-requires c κs = search needs
 add-lines : tie.Need-add-lines Inv-loop μ-loop
 add-lines c =
     let p = c .before .before .before .before .before .before in
-    omega (arith, at-turn c, few _ (p .args .day) (p .pre) .0)
+    omega (arith, at-turn c, lines-few (p .args .words .now) (p .args .day) .0)
 
 loop-less : tie.Need-loop-less Inv-loop μ-loop
 loop-less c = search needs

@@ -3,11 +3,11 @@
 use mathlib.Core.Path.{ap, sym, _∙_}
 use mathlib.Core.Bool.{not}
 use borrow.Author.Needs.{needs}
-use Rattle.listing.proofs.is_standing.Statement.{statement}
-use Rattle.listing.proofs.is_standing.Tie as tie
+use Rattle.standing.proofs.is_standing.Statement.{statement}
+use Rattle.standing.proofs.is_standing.Tie as tie
 use Rattle.book_words.proofs.Rows.{rows-none}
 use Rattle.dial_code.proofs.Tests.{positive}
-use Rattle.listing.proofs.Turns.{after-day, closed, unless-replaced, none-next, other-next, same-next, row}
+use Rattle.standing.proofs.Turns.{after-day, closed, unless-replaced, none-next, other-next, same-next, row}
 
 returns : tie.Need-returns
 returns c = sym (after-day _ _ _ (c .if1 .taken))

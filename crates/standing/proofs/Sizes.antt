@@ -22,8 +22,7 @@ use Rattle.notice_writing.proofs.LayoutLaws.{line-opens, line-bytes, lines-nil,
 use Rattle.notice_writing.proofs.Sizes.{code-fits, one-more, terms-encodable}
 use Rattle.book.specs.Status.{heldOffer}
 use Rattle.book_words.specs.declared.Entry.{Entry}
-use Rattle.listing.specs.Pass.{stands, entryLine, addedBy}
-use Rattle.listing.proofs.Passing.{passed, offerAt}
+use Rattle.standing.specs.Pass.{stands, offerAt, entryLine, addedBy, passed}
 
 -- What any word stands for is in range.
 pub offer-in-range : (w : ℕ) → inRange (offerAt w) ≡ true

@@ -1,8 +1,8 @@
 -- line_of meets its contract. Assumes nothing.
 use borrow.Author.Needs.{needs}
-use Rattle.listing.proofs.line_of.Statement.{statement}
-use Rattle.listing.proofs.line_of.Tie as tie
-use Rattle.listing.proofs.Turns.{line-is}
+use Rattle.standing.proofs.line_of.Statement.{statement}
+use Rattle.standing.proofs.line_of.Tie as tie
+use Rattle.standing.proofs.Turns.{line-is}
 
 word-offer-requires : tie.Need-word-offer-requires
 word-offer-requires c κs = search needs

@@ -1,0 +1,3 @@
+-- The laws of what stands.
+pub mod Sizes
+pub mod Turns

@@ -1,0 +1,2 @@
+-- What stands on a day, entry by entry.
+pub mod Pass
