@@ -3,7 +3,7 @@ ghost use mathlib.Core.Path.{_≡_};
 ghost use Prim.Native.Nat.{_≤_};
 ghost use lib.ListN.{length};
 ghost use Rattle.country_code.specs.CountryCode.{countryOfKey};
-ghost use Rattle.merge.specs.Lines.{linesAt};
+ghost use Rattle.notice.specs.Lines.{linesAt};
 ghost use Rattle.country_marks.specs.Marks.{marked, marksOf, marksFor};
 use country_code::Country;
 use notice::Summary;

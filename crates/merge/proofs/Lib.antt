@@ -1,6 +1,4 @@
--- The laws of the merge: entries put, the passes over entries one at a time, its lines, and how many entries it comes to.
-pub mod Stores
+-- The laws of the merge: the passes over entries one at a time, the whole, and how many entries it comes to.
 pub mod PassLaws
-pub mod LinesAgain
 pub mod Merging
 pub mod MergedMost

@@ -23,12 +23,12 @@ use Rattle.closing.specs.Closings.{closesBy}
 use Rattle.effect.specs.declared.Plan.{Plan}
 use Rattle.merge_rule.specs.Passes.{gapBelow, lineEntries, lineRest, merged}
 use Rattle.merge_rule.proofs.MergedLength.{line-length}
-use Rattle.merge.specs.Lines.{linesAt}
+use Rattle.notice.specs.Lines.{linesAt}
 use Rattle.merge.specs.Merge.{mostMerged, mergedBy, mergedAnswer, mergedLeaves, Passed}
 use Rattle.merge.specs.declared.Merged.{Merged}
 use Rattle.merge.specs.declared.Place.{Place}
-use Rattle.merge.proofs.LinesAgain.{lines-none-left, line-read, line-refused}
-use Rattle.merge.proofs.Stores.{Writing, writing-all, writing-on, writing-counted, writing-end}
+use Rattle.notice.proofs.LinesAgain.{lines-none-left, line-read, line-refused}
+use Rattle.book_words.proofs.Stores.{Writing, writing-all, writing-on, writing-counted, writing-end}
 
 -- The old entries that are left.
 abbrev pub leftAt : List ℕ → Place → List Entry
@@ -151,14 +151,14 @@ module _
     merge-dated = rw (lines-none-left left s at h) at (i .dated)
 
     module _
-        {to : Place} {rest : List Entry}
-        (q : Passed old place to (gapPuts old p marks place) rest)
+        {count : ℕ}
+        (q : count ≡ place .count + length (gapPuts old p marks place))
         {next : List ℕ}
         (n : next ≡ putEntries new (place .count) (gapPuts old p marks place)) where
-      finished : Writing new₀ 0 (mergedBy old p marks all) next (to .count) []
-      finished = writing-on (i .puts) (gapPuts old p marks place) [] (to .count) gap-left (q .counted) n
+      finished : Writing new₀ 0 (mergedBy old p marks all) next count []
+      finished = writing-on (i .puts) (gapPuts old p marks place) [] count gap-left q n
 
-      pub merge-counted : to .count ≡ length (mergedBy old p marks all)
+      pub merge-counted : count ≡ length (mergedBy old p marks all)
       merge-counted = omega (arith, writing-counted finished refl)
 
       pub merge-written : next ≡ putEntries new₀ 0 (mergedBy old p marks all)

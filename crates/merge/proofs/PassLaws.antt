@@ -54,17 +54,17 @@ module _ (day : ℕ) (e : Entry) (fs : List Entry) where
     unfolding unlistedAs closedOne
     stays-closed h o = rw (q, lt-ltb _ _ h, eq-eqb _ _ o)
 
-    pub stays-on : e .day < day → (e .offer ≡ 0 → ⊥) → goesOn day e fs ≡ true → unlistedAs t day e fs ≡ e ∷ []
+    pub stays-on : e .day < day → (e .offer ≡ 0 → ⊥) → {g : Bool} → g ≡ goesOn day e fs → g ≡ true → unlistedAs t day e fs ≡ e ∷ []
     unfolding unlistedAs closedOne
-    stays-on h o g = rw (q, lt-ltb _ _ h, ne-eqb _ _ o, g)
+    stays-on h o f g = rw (q, lt-ltb _ _ h, ne-eqb _ _ o, ← f, g)
 
     pub closes-after :
         e .day < day
         → (e .offer ≡ 0 → ⊥)
-        → goesOn day e fs ≡ false
+        → {g : Bool} → g ≡ goesOn day e fs → g ≡ false
         → unlistedAs t day e fs ≡ e ∷ entry (e .key) day 0 ∷ []
     unfolding unlistedAs closedOne
-    closes-after h o g = rw (q, lt-ltb _ _ h, ne-eqb _ _ o, g)
+    closes-after h o f g = rw (q, lt-ltb _ _ h, ne-eqb _ _ o, ← f, g)
 
   pub at-most-two : (t : Bool) → length (unlistedAs t day e fs) ≤ 2
   unfolding unlistedAs closedOne

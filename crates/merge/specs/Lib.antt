@@ -1,3 +1,2 @@
 -- The merge as a whole.
-pub mod Lines
 pub mod Merge

@@ -13,7 +13,7 @@ use Rattle.effect.specs.Lines.{foundIn, changesBy, latestBy}
 use Rattle.closing.specs.Closings.{closesBy}
 use Rattle.effect.specs.declared.Plan.{Plan}
 use Rattle.merge_rule.specs.Passes.{keptOf, statusOf, restAfter, merged}
-use Rattle.merge.specs.Lines.{linesAt}
+use Rattle.notice.specs.Lines.{linesAt}
 use Rattle.merge.specs.declared.Kept.{Kept}
 use Rattle.merge.specs.declared.Merged.{Merged}
 use Rattle.merge.specs.declared.Place.{Place}

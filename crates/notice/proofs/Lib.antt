@@ -3,3 +3,4 @@ pub mod LinesLaws
 pub mod NoticeLaws
 pub mod Scanning
 pub mod Checking
+pub mod LinesAgain

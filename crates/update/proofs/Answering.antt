@@ -28,9 +28,9 @@ use Rattle.update.specs.Plans.{planOf}
 use Rattle.country_marks.specs.Marks.{marksFor}
 use Rattle.effect.specs.Lines.{foundIn, latestBy}
 use Rattle.effect.specs.declared.Plan.{Plan}
-use Rattle.merge.specs.Lines.{linesAt}
+use Rattle.notice.specs.Lines.{linesAt}
 use Rattle.merge.specs.Merge.{mergedBy}
-use Rattle.merge.proofs.LinesAgain.{lines-again}
+use Rattle.notice.proofs.LinesAgain.{lines-again}
 use Rattle.update.proofs.NewEntries.{new-facts}
 
 -- A refused apply answers its refusal, and leaves every word as it was.

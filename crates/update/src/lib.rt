@@ -13,7 +13,7 @@ ghost use Rattle.book_words.specs.Layout.{headerWords, entryWords, mostPeriod, 
 ghost use Rattle.book.specs.Soundness.{sound};
 ghost use Rattle.history.specs.Applying.{refusedApply, applyAnswer, applied};
 ghost use Rattle.effect.specs.Lines.{foundIn, latestBy};
-ghost use Rattle.merge.specs.Lines.{linesAt};
+ghost use Rattle.notice.specs.Lines.{linesAt};
 ghost use Rattle.merge.specs.Merge.{mergedBy};
 ghost use Rattle.update.specs.Plans.{planOf};
 use book_words::Header;

@@ -6,8 +6,8 @@ use native.Mathlib.Omega.{arith}
 use borrow.Author.Needs.{needs}
 use lib.ListN.{length}
 use Rattle.country_code.specs.CountryCode.{countryOfKey}
-use Rattle.merge.specs.Lines.{linesAt}
-use Rattle.merge.proofs.LinesAgain.{lines-none-left, line-read, line-refused}
+use Rattle.notice.specs.Lines.{linesAt}
+use Rattle.notice.proofs.LinesAgain.{lines-none-left, line-read, line-refused}
 use Rattle.country_marks.specs.Marks.{marksOf}
 use Rattle.country_marks.proofs.Marking.{marks-kept, marks-turn, marks-end}
 use Rattle.country_marks.proofs.mark_lines.Statement.{statement}

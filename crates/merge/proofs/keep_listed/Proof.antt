@@ -9,8 +9,8 @@ use lib.ListN.{length}
 use Rattle.book_words.specs.Layout.{entryWords, mostWords, entriesFrom}
 use Rattle.book_words.proofs.Rows.{rows-none}
 use Rattle.merge_rule.specs.Passes.{keptOf, statusOf, restAfter}
-use Rattle.merge.proofs.Stores.{Writing, writing-all, writing-same, writing-on}
-use Rattle.merge.proofs.Stores.{writing-counted, writing-end}
+use Rattle.book_words.proofs.Stores.{Writing, writing-all, writing-same, writing-on}
+use Rattle.book_words.proofs.Stores.{writing-counted, writing-end}
 use Rattle.merge.proofs.PassLaws.{next-row, KeptTurn, kept-on, kept-off, kept-stops, kept-none}
 use Rattle.merge.proofs.keep_listed.Statement.{statement}
 use Rattle.merge.proofs.keep_listed.Tie as tie

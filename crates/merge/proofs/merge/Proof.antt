@@ -8,7 +8,7 @@ use lib.ListN.{length}
 use Rattle.book_words.specs.Layout.{entryWords, mostWords}
 use Rattle.book_words.specs.declared.Header.{Header}
 use Rattle.book.proofs.Headers.{count-room}
-use Rattle.merge.specs.Lines.{linesAt}
+use Rattle.notice.specs.Lines.{linesAt}
 use Rattle.merge.specs.Merge.{mostMerged}
 use Rattle.merge.proofs.Merging.{Merging, merge-starts, pass-most, merge-refused, merge-next, merge-dated, merge-counted}
 use Rattle.merge.proofs.Merging.{merge-written, merge-same, merge-answers, merge-leaves}
@@ -100,7 +100,7 @@ pass-unlisted-requires c κs =
 same-length : tie.Need-same-length Inv-loop μ-loop
 same-length c =
     let p = c .before .before .pass-unlisted .ensures in
-    merge-same (c .before .before .before .before .before .loop .inv .2) (c .before .before .before .before .loop-test .left) (p .0) (p .1)
+    merge-same (c .before .before .before .before .before .loop .inv .2) (c .before .before .before .before .loop-test .left) (p .0 .counted) (p .1)
 
 returns : tie.Need-returns Inv-loop μ-loop
 returns c =
@@ -110,9 +110,9 @@ returns c =
     let e = c .before .before .before .before .before .before .lesser .ensures in
     let a = c .before .before .before .before .before .before .before .before .before .before .before .before .before .args in (
       merge-answers (a .old .now) (a .plan) (a .marks .now) (a .notice .now) (a .start) (a .lines) e
-          (merge-counted i h (p .0) (p .1)) (merge-dated i h),
+          (merge-counted i h (p .0 .counted) (p .1)) (merge-dated i h),
       merge-leaves (a .old .now) (a .plan) (a .marks .now) (a .notice .now) (a .start) (a .lines) e
-          (a .new .now) (merge-written i h (p .0) (p .1)),
+          (a .new .now) (merge-written i h (p .0 .counted) (p .1)),
     )
 
 room-in-requires : tie.Need-room-in-requires Inv-loop μ-loop

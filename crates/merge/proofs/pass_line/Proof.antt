@@ -5,7 +5,7 @@ use borrow.Author.Needs.{needs}
 use Rattle.book_words.specs.Layout.{entriesFrom}
 use Rattle.merge_rule.specs.Passes.{gapBelow, restFrom, listedGroup, lineEntries, lineRest}
 use Rattle.closing.specs.Closings.{closesBy}
-use Rattle.merge.proofs.Stores.{puts-on}
+use Rattle.book_words.proofs.Stores.{puts-on}
 use Rattle.merge.proofs.PassLaws.{passed-on, gap-bound}
 use Rattle.merge.proofs.pass_line.Statement.{statement}
 use Rattle.merge.proofs.pass_line.Tie as tie

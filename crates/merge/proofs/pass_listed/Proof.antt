@@ -8,7 +8,7 @@ use lib.ListN.{length-append}
 use Rattle.book_words.specs.Layout.{entriesFrom}
 use Rattle.book_words.proofs.Rows.{length-rows}
 use Rattle.merge_rule.specs.Passes.{keptOf, listedGroup}
-use Rattle.merge.proofs.Stores.{puts-on}
+use Rattle.book_words.proofs.Stores.{puts-on}
 use Rattle.merge.proofs.PassLaws.{listed-same, listed-new, kept-most}
 use Rattle.merge.proofs.pass_listed.Statement.{statement}
 use Rattle.merge.proofs.pass_listed.Tie as tie

@@ -13,7 +13,7 @@ use Rattle.book_words.proofs.Rows.{rows-none}
 use Rattle.merge_rule.specs.Passes.{gapBelow, restFrom, unlistedAs}
 use Rattle.closing.specs.Closings.{closesBy}
 use Rattle.closing.proofs.ClosingLaws.{ClosedAlike, anyway-alike, range-alike, range-closed}
-use Rattle.merge.proofs.Stores.{Writing, writing-all, writing-on, writing-counted, writing-end}
+use Rattle.book_words.proofs.Stores.{Writing, writing-all, writing-on, writing-counted, writing-end}
 use Rattle.merge.proofs.PassLaws.{next-row, gap-on, gap-stops, gap-none, rest-on, rest-stops, rest-none, at-most-two}
 use Rattle.merge.proofs.pass_unlisted.Statement.{statement}
 use Rattle.merge.proofs.pass_unlisted.Tie as tie

@@ -1,6 +1,6 @@
 -- `merge::put_unlisted` meets its contract: which entries stay is known at each return.
 -- Assumes nothing.
-use mathlib.Core.Path.{_≡_, refl, sym, _∙_}
+use mathlib.Core.Path.{_≡_, refl, sym}
 use mathlib.Core.List.{[], _∷_}
 use Prim.Native.Nat.{_+_}
 use native.Mathlib.Omega.{arith}
@@ -9,7 +9,7 @@ use borrow.Author.Tests.{not-true, not-false}
 use Rattle.book_words.specs.Layout.{entry, entriesFrom}
 use Rattle.book_words.proofs.Places.{puts-none}
 use Rattle.merge_rule.specs.Passes.{unlistedAs}
-use Rattle.merge.proofs.Stores.{puts-on}
+use Rattle.book_words.proofs.Stores.{puts-on}
 use Rattle.merge.proofs.PassLaws.{stays, goes, stays-closed, stays-on, closes-after}
 use Rattle.merge.proofs.put_unlisted.Statement.{statement}
 use Rattle.merge.proofs.put_unlisted.Tie as tie
@@ -69,8 +69,8 @@ returns-4 c =
     let p = c .before .before .before .before .before .before .before .before in
     let a = p .before .before .before .before .before .args in
     let es = entriesFrom (a .old .now) (a .at) (a .left) in
-    let on = sym (c .before .goes-on .ensures) ∙ c .if4 .taken in
-    rw (stays-on (a .day) (a .e) es (not-false _ (p .before .before .if1 .left)) (p .if2 .left) (c .before .before .if3 .left) on)
+    rw (stays-on (a .day) (a .e) es (not-false _ (p .before .before .if1 .left)) (p .if2 .left) (c .before .before .if3 .left)
+    (c .before .goes-on .ensures) (c .if4 .taken))
     (omega arith, c .before .before .before .before .before .before .put2 .ensures)
 
 add-put : tie.Need-add-put
@@ -83,7 +83,7 @@ both-put : (c : tie.Else4) →
 both-put c =
     let p = c .before .before .before .before .before .before .before .before in
     closes-after _ _ _ (not-false _ (p .before .before .if1 .left)) (p .if2 .left) (c .before .before .if3 .left)
-    (sym (c .before .goes-on .ensures) ∙ c .if4 .left)
+    (c .before .goes-on .ensures) (c .if4 .left)
 
 put-requires-3 : tie.Need-put-requires-3
 put-requires-3 c κs = omega (arith, c .before .before .before .before .before .before .before .put2 .kept .0)

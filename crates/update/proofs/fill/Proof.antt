@@ -8,7 +8,7 @@ use Rattle.book_words.specs.Layout.{headerWords, entryWords, header, latestOf}
 use Rattle.book_words.specs.declared.Header.{Header}
 use Rattle.book_words.proofs.NewBook.{book-made}
 use Rattle.effect.specs.Lines.{foundIn, latestBy}
-use Rattle.merge.specs.Lines.{linesAt}
+use Rattle.notice.specs.Lines.{linesAt}
 use Rattle.merge.specs.Merge.{mergedBy}
 use Rattle.merge.proofs.Merging.{answered, written-all}
 use Rattle.update.proofs.fill.Statement.{statement}

@@ -7,9 +7,9 @@ use lib.Dec.{leb}
 use lib.ListN.{length}
 use Rattle.book_words.specs.Layout.{held}
 use Rattle.book.proofs.Headers.{count-room}
-use Rattle.merge.specs.Lines.{linesAt}
+use Rattle.notice.specs.Lines.{linesAt}
 use Rattle.merge.specs.Merge.{mergedBy}
-use Rattle.merge.proofs.LinesAgain.{length-lines}
+use Rattle.notice.proofs.LinesAgain.{length-lines}
 use Rattle.merge.proofs.MergedMost.{merged-most}
 use Rattle.merge.proofs.Merging.{answered}
 use Rattle.update.proofs.has_room.Statement.{statement}

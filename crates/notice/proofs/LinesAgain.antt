@@ -6,12 +6,12 @@ use native.Mathlib.Numerals.{sub-one}
 use native.Mathlib.Omega.{arith}
 use lib.ListN.{length, drop}
 use Rattle.notice_line.specs.LineRule.{lineAt}
 use Rattle.notice.specs.NoticeRule.{lines, readLines}
 use Rattle.notice_line.specs.declared.Line.{Line}
 use Rattle.notice_line.specs.declared.LineRead.{LineRead}
 use Rattle.notice_line.specs.declared.LineRead.the-variants.{Read, Refused}
 use Rattle.notice.proofs.LinesLaws.{line-next, lines-none}
-use Rattle.merge.specs.Lines.{whereRead, linesAt}
+use Rattle.notice.specs.Lines.{whereRead, linesAt}
 
 pub lines-none-left : (n : ℕ) (s : List ℕ) (at : ℕ) → n ≤ 0 → linesAt n s at ≡ []
 unfolding linesAt
