@@ -31,8 +31,8 @@ pub struct Code {
 
 // The weight of a place, 11 to the power 15 - place.
 fn weight_of(place: u64) -> u64
-    requires { ⌜ place ≤ 15 ⌝ }
-    ensures { λ r. ⌜ r ≡ 11 ^ (15 - place) ⌝ }
+    requires { ⌜ place ≤ mostDigits ⌝ }
+    ensures { λ r. ⌜ r ≡ 11 ^ (mostDigits - place) ⌝ }
 {
     match place {
         0 => 4_177_248_169_415_651,

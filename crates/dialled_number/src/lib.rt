@@ -4,6 +4,7 @@ ghost use Prim.Native.Nat.{_<_};
 ghost use Rattle.dialled_number.specs.NumberKey.{numberKey, sentNumberKey};
 use dial_code::FIRST_PLACE;
 use dial_code::Keyed;
+use dial_code::MOST_DIGITS;
 
 fn wide(x: u8) -> u64
     ensures { λ r. ⌜ (r ≡ x) × (r < 256) ⌝ }
@@ -19,7 +20,7 @@ pub fn number_key(number: &[u8]) -> Keyed
     if number.len() == 0 {
         return Keyed::Refused(refusal::NOT_A_NUMBER);
     }
-    if 15 < number.len() {
+    if (MOST_DIGITS as usize) < number.len() {
         return Keyed::Refused(refusal::NOT_A_NUMBER);
     }
     if number[0] == b'0' {

@@ -1,6 +1,7 @@
 // A line's code, as its key (document 01, "Notice layout").
 ghost use mathlib.Core.Path.{_≡_};
 ghost use Prim.Native.Nat.{_≤_};
+ghost use Rattle.dial_code.specs.Digits.{mostDigits};
 ghost use Rattle.country_code.specs.CountryCode.{countryOfKey};
 ghost use Rattle.line_code.specs.CodeRule.{isCountry, codeField, readCode};
 use country_code::Country;
@@ -19,7 +20,7 @@ pub fn lies_in(key: u64, named: u64) -> bool
 
 // A code's value field, against the key of the line before and the country that a replacement names.
 fn code_field(named: u64, before: u64, count: u64, value: u64, next: usize) -> Number
-    requires { ⌜ (1 ≤ count) × (count ≤ 15) ⌝ }
+    requires { ⌜ (1 ≤ count) × (count ≤ mostDigits) ⌝ }
     ensures { λ r. ⌜ r ≡ codeField named before count value next ⌝ }
 {
     match allowed_code::sent_code_key(count, value) {

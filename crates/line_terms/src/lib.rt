@@ -2,7 +2,7 @@
 ghost use mathlib.Core.Path.{_≡_};
 ghost use Prim.Native.Nat.{_≤_};
 ghost use Rattle.rate.specs.Price.{priceOf};
-ghost use Rattle.line_terms.specs.TermsRule.{offered, readIncrements, readRate, readTerms};
+ghost use Rattle.line_terms.specs.TermsRule.{mostSeconds, offered, readIncrements, readRate, readTerms};
 use rate::Offer;
 use rate::Priced;
 use rate::Rate;
@@ -25,7 +25,7 @@ pub enum Terms {
 
 // The offer of a rate and its increments: above the dearest open rate it is a block.
 fn offer_of(mantissa: u64, decimals: u64, first: u64, next: u64) -> Offer
-    requires { ⌜ (first ≤ 255) × (next ≤ 255) ⌝ }
+    requires { ⌜ (first ≤ mostSeconds) × (next ≤ mostSeconds) ⌝ }
     ensures { λ r. ⌜ r ≡ offered (priceOf mantissa decimals) first next ⌝ }
 {
     match Rate::new(mantissa, decimals) {

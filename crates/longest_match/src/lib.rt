@@ -139,7 +139,7 @@ pub fn best_offer(words: &[u64], key: u64, day: u64) -> Answer
     let mut bound = key;
     let mut quotient = key;
     let mut place: u64 = 1;
-    let mut n: u64 = 15;
+    let mut n = dial_code::MOST_DIGITS;
     while 0 < n {
         if count == 0 {
             return Answer {

@@ -1,19 +1,30 @@
 -- The merge as a whole, for any words and bytes: what it answers, and the words that it leaves.
-use mathlib.Core.List.{List}
-use mathlib.Core.Path.{_≡_}
+use mathlib.Core.Path.{_≡_, refl}
+use mathlib.Core.Bool.{false}
+use mathlib.Core.List.{List, [], _∷_, _++_}
 use Prim.Native.Nat.{ℕ, _+_, _-_, _*_, _/_, _≤_, min}
-use lib.ListN.{length}
-use Rattle.dial_code.specs.Key.{keysEnd}
-use Rattle.notice_header.specs.HeaderRule.{mostLines}
+use lib.ListN.{length, replicate}
+use Rattle.varint.specs.Reading.{readNumber}
+use Rattle.varint.specs.Ranged.{readRanged}
+use Rattle.dial_code.specs.Key.{key, keysEnd}
+use Rattle.dial_code.specs.Digits.{digits}
+use Rattle.country_code.specs.CountryCode.{countryOfKey}
+use Rattle.allowed_code.specs.Code.{isCode}
+use Rattle.rate.specs.OfferWord.{wordOf, offerOf}
+use Rattle.line_code.specs.CodeRule.{codeField, readCode}
+use Rattle.line_terms.specs.TermsRule.{readTerms}
+use Rattle.notice_line.specs.LineRule.{listedField, readListed, readLine, lineAt}
 use Rattle.notice_line.specs.declared.Line.{Line}
-use Rattle.book_words.specs.Layout.{headerWords, entryWords, mostEntries, mostWords, latestOf, entriesFrom, putEntries}
-use Rattle.book.specs.Soundness.{headedCount}
-use Rattle.book_words.specs.declared.Entry.{Entry}
-use Rattle.effect.specs.Lines.{foundIn, changesBy, latestBy}
-use Rattle.closing.specs.Closings.{closesBy}
-use Rattle.effect.specs.declared.Plan.{Plan}
-use Rattle.merge_rule.specs.Passes.{keptOf, statusOf, restAfter, merged}
+use Rattle.notice_header.specs.HeaderRule.{mostLines, full, update}
 use Rattle.notice.specs.Lines.{linesAt}
+use Rattle.book_words.specs.Layout.{headerWords, entryWords, mostEntries, mostWords, entry, latestOf, entriesFrom, wordsOf, bookOf, putEntries}
+use Rattle.book_words.specs.declared.Entry.{Entry}
+use Rattle.book.specs.Soundness.{headedCount}
+use Rattle.longest_match.specs.Search.{bestFound}
+use Rattle.effect.specs.Lines.{foundIn, changesBy, latestBy}
+use Rattle.effect.specs.declared.Plan.{Plan}
+use Rattle.closing.specs.Closings.{closesBy}
+use Rattle.merge_rule.specs.Passes.{keptOf, statusOf, restAfter, merged, lineEntries, lineRest, gapBelow, unlistedAs, closedOne, goesOn, restFrom, listedGroup, placed}
 use Rattle.merge.specs.declared.Kept.{Kept}
 use Rattle.merge.specs.declared.Merged.{Merged}
 use Rattle.merge.specs.declared.Place.{Place}
@@ -43,6 +54,51 @@ mergedAnswer ws p marks s start lines =
 unfoldable pub mergedLeaves : List ℕ → Plan → List ℕ → List ℕ → ℕ → ℕ → List ℕ → List ℕ
 unfolding mergedBy
 mergedLeaves ws p marks s start lines new = putEntries new 0 (mergedBy ws p marks (sent s start lines))
+
+-- 44 blocked and 7 open, both from day 90 on
+before : List ℕ
+before = bookOf (headerWords + 2 * entryWords) 7 90 90 (entry (key (4 ∷ 4 ∷ [])) 90 1 ∷ entry (key (7 ∷ [])) 90 259 ∷ [])
+
+-- a notice received on day 100 with the floor on day 107
+plan : ℕ → Plan
+plan kind = record { kind = kind; country = 0; received = 100; floor = 107; noticed = false; closing = 107 }
+
+-- 44 deleted, as a line of a notice behind a byte; another byte after it
+bytes : List ℕ
+bytes = 99 ∷ 2 ∷ 44 ∷ 0 ∷ 0 ∷ 99 ∷ []
+
+new : ℕ → List ℕ
+new n = replicate n 0
+
+-- in an update and in a full notice, where 7 closes; no line is to be read, and none reads
+answers :
+    mergedAnswer before (plan update) [] bytes 1 1
+    ∷ mergedAnswer before (plan full) [] bytes 1 1
+    ∷ mergedAnswer before (plan update) [] bytes 1 0
+    ∷ mergedAnswer before (plan update) [] bytes 0 1
+    ∷ mergedAnswer before (plan update) [] bytes 1 2
+    ∷ mergedAnswer [] (plan update) [] bytes 1 1
+    ∷ []
+    ≡ record { count = 3; latest = 107 }
+    ∷ record { count = 4; latest = 107 }
+    ∷ record { count = 2; latest = 90 }
+    ∷ record { count = 2; latest = 90 }
+    ∷ record { count = 3; latest = 107 }
+    ∷ record { count = 0; latest = 107 }
+    ∷ []
+unfolding mergedAnswer merged lineEntries lineRest gapBelow unlistedAs closedOne goesOn restFrom listedGroup placed restAfter changesBy latestBy linesAt lineAt readLine readCode codeField digits isCode readTerms readListed listedField readRanged readNumber headedCount entriesFrom bestFound offerOf wordOf key bookOf closesBy countryOfKey before plan bytes
+answers = refl
+
+-- words for three of four entries and two over; none for an entry
+leaves :
+    mergedLeaves before (plan full) [] bytes 1 1 (new (headerWords + 3 * entryWords + 2))
+    ∷ mergedLeaves before (plan full) [] bytes 1 1 (new 1)
+    ∷ []
+    ≡ (new headerWords ++ wordsOf (entry (key (4 ∷ 4 ∷ [])) 90 1 ∷ entry (key (4 ∷ 4 ∷ [])) 107 0 ∷ entry (key (7 ∷ [])) 90 259 ∷ []) ++ new 2)
+    ∷ new 1
+    ∷ []
+unfolding mergedLeaves merged lineEntries lineRest gapBelow unlistedAs closedOne goesOn restFrom listedGroup placed restAfter changesBy linesAt lineAt readLine readCode codeField digits isCode readTerms readListed listedField readRanged readNumber headedCount entriesFrom bestFound offerOf wordOf key bookOf closesBy countryOfKey before plan bytes putEntries new
+leaves = refl
 
 -- A place in the old entries: they are there, and its numbers stay small.
 abbrev pub stands : List ℕ → Place → Type 0

@@ -1,6 +1,7 @@
 // A notice's leading fields (document 01, "Notice layout"), read through a reader that gives its numbers one by one.
 ghost use mathlib.Core.Path.{_≡_};
 ghost use Prim.Native.Nat.{_≤_};
+ghost use Rattle.dial_code.specs.Digits.{mostDigits};
 ghost use Rattle.notice_header.specs.HeaderRule.{countryField, readHeader};
 ghost use Rattle.notice_header.specs.Leading.{countryBy, linesBy, datedBy, headerBy};
 use calendar::Day;
@@ -36,7 +37,7 @@ pub enum HeaderRead {
 
 // A replacement country's value field: exactly a country code.
 fn country_field(count: u64, value: u64, end: usize) -> Number
-    requires { ⌜ (1 ≤ count) × (count ≤ 15) ⌝ }
+    requires { ⌜ (1 ≤ count) × (count ≤ mostDigits) ⌝ }
     ensures { λ r. ⌜ r ≡ countryField count value end ⌝ }
 {
     match dial_code::code_key(count, value) {
