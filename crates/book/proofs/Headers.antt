@@ -41,7 +41,7 @@ headed ws l h =
 
 -- A sound book: words for a header, a sound header, sound entries, and 0 in every unused word.
 pub record SoundBook (ws : List ℕ) : Type 0 where
-  pub four : headerWords ≤ length ws
+  pub long : headerWords ≤ length ws
   pub header : Headed ws
   pub entries : soundEntries (entriesOf ws) ≡ true
   pub unused : allZero (drop (headerWords + countOf ws * entryWords) ws) ≡ true
@@ -53,7 +53,7 @@ sound-book ws s =
     let b = both _ _ (a .1) in
     let r = both _ _ (b .1) in
     let l = leb-true headerWords (length ws) (a .0) in
-    record { four = l; header = headed ws l (b .0); entries = r .0; unused = r .1 }
+    record { long = l; header = headed ws l (b .0); entries = r .0; unused = r .1 }
 
 pub book-sound :
     (ws : List ℕ)

@@ -69,7 +69,7 @@ book-back ws s =
     let b = sound-book ws s in
     let m : drop (headerWords + countOf ws * entryWords) ws ≡ replicate (length ws - (headerWords + countOf ws * entryWords)) 0 =
     clear-zeros _ (b .unused) ∙ ap (λ (k : ℕ). replicate k 0) (length-drop (headerWords + countOf ws * entryWords) ws) in
-    headed-words ws (b .four)
+    headed-words ws (b .long)
     ∙ ap (λ (l : List ℕ). wordsOfHeader (headerOf ws) ++ l)
     (words-of ws headerWords (countOf ws) (b .header .room)
     ∙ ap₂ (λ (x : List Entry) (y : List ℕ). wordsOf x ++ y) (sym (of-book ws)) m)

@@ -12,11 +12,12 @@ use Rattle.dial_code.specs.declared.Keyed.the-variants.{Key}
 use Rattle.allowed_code.proofs.SentBack as codes
 use Rattle.notice_line.specs.LineRule.{readLine}
 use Rattle.notice.specs.NoticeRule.{Notice, notice, unread, readNotice}
-use Rattle.notice_writing.specs.Layout.{encodeLine, encodeNotice}
+use Rattle.line_writing.specs.LineLayout.{encodeLine}
+use Rattle.notice_writing.specs.Layout.{encodeNotice}
 use Rattle.notice_line.specs.declared.Line.{Line}
 use Rattle.notice_line.specs.declared.LineRead.the-variants as line
 use Rattle.notice_line.proofs.LineLaws.{ValidLine}
-use Rattle.notice_writing.proofs.LineBack as back
+use Rattle.line_writing.proofs.LineBack as back
 use Rattle.notice.proofs.NoticeLaws as laws
 use Rattle.notice_writing.proofs.NoticeBack as backs
 use Rattle.dial_code.specs.Digits.{isWritten, isDialled}
@@ -124,7 +125,7 @@ pub list-applied :
     → isDay d ≡ true
     → lookup (applied (freshBook start 0) (encodeNotice (standingNotice (entriesOf ws) (day .0))) new) number d
     ≡ cond (leb (day .0) (d .0)) (lookup ws number day) (Found (answer 0 Closed)))
-list-applied ws day b r some start f new four fits = (
-  relisted.relisted-accepted ws day b r some start f new four fits,
-  relisted.relisted-lookups ws day b r some start f new four fits,
+list-applied ws day b r some start f new long fits = (
+  relisted.relisted-accepted ws day b r some start f new long fits,
+  relisted.relisted-lookups ws day b r some start f new long fits,
 )

@@ -69,7 +69,7 @@ accepted-notice :
 accepted-notice ws bytes len n h e q =
     let x = accepted-facts ws bytes len h e in
     let s : x .read ≡ n = cc (x .reads) in
-    (x .four, rw s at (x .in-order), rw s at (x .fits))
+    (x .long, rw s at (x .in-order), rw s at (x .fits))
 
 -- A partial notice, an update or a replacement changes no offer of a number outside the countries that it names.
 pub outside-keeps :

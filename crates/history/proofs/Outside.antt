@@ -188,8 +188,8 @@ pub new-sound :
     → headerWords ≤ len
     → length (newEntries ws n) ≤ held len
     → sound (newBook ws len n) ≡ true
-new-sound ws n len h g four fits =
-    sound-back len (periodOf ws) (n .received) (afterBook ws n .latest) (newEntries ws n) four fits
+new-sound ws n len h g long fits =
+    sound-back len (periodOf ws) (n .received) (afterBook ws n .latest) (newEntries ws n) long fits
     (sound-book ws h .header .period-most) (g .received) (standing-after ws n h g .latest) (new-entries-sound ws n h g)
 
 new-gives : (ws : List ℕ) (n : Notice) (len : ℕ) → sound ws ≡ true → Good n → inBook (newBook ws len n) ≡ afterBook ws n
@@ -236,10 +236,10 @@ pub outside-new :
 outside-new ws n len number day h g v f s u = by-number (isDialled number) refl (isDay day) refl
   where
     old : bookRefusal ws ≡ 0
-    old = usable-book ws (sound-book ws h .four) h
+    old = usable-book ws (sound-book ws h .long) h
 
     new : bookRefusal (newBook ws len n) ≡ 0
-    new = usable-book (newBook ws len n) (sound-book (newBook ws len n) s .four) s
+    new = usable-book (newBook ws len n) (sound-book (newBook ws len n) s .long) s
 
     kept : isDialled number ≡ true
         → matched (statusOn (newBook ws len n) (day .0)) (map digitOf number)

@@ -22,7 +22,7 @@ module _ (period : ℕ) (accepted : List Notice) (bytes : List ℕ) (len : ℕ) 
 
   -- A notice that nothing refuses before the new book's space does.
   record Read (n : Notice) : Type 0 where
-    four : headerWords ≤ len
+    long : headerWords ≤ len
     reads : readNotice bytes ≡ notice n
     in-order : lastReceived accepted ≤ n .received
 
@@ -57,7 +57,7 @@ module _ (period : ℕ) (accepted : List Notice) (bytes : List ℕ) (len : ℕ) 
           → Cause r
       by-order n l q true p z = earlier (sym z)
       by-order n l q false p z =
-          by-fit n (record { four = l; reads = q; in-order = ltb-false _ _ p }) (leb (needed n) (held len)) refl z
+          by-fit n (record { long = l; reads = q; in-order = ltb-false _ _ p }) (leb (needed n) (held len)) refl z
 
       by-reading : headerWords ≤ len → (x : Reading) → readNotice bytes ≡ x → readings period accepted len x ≡ r → Cause r
       by-reading l (notice n) q z =
@@ -92,7 +92,7 @@ module _ (period : ℕ) (accepted : List Notice) (bytes : List ℕ) (len : ℕ) 
       told (short h e) = absurd (omega arith)
       told (damaged h e) = absurd (omega arith)
       told (earlier e) = absurd (omega arith)
-      told (crowded n f s e) = (n, f .four, f .reads, f .in-order, s)
+      told (crowded n f s e) = (n, f .long, f .reads, f .in-order, s)
       told (fitting n f s e) = absurd (omega arith)
 
   -- It answers 0 exactly where nothing earlier refuses and they are no more.
@@ -112,4 +112,4 @@ module _ (period : ℕ) (accepted : List Notice) (bytes : List ℕ) (len : ℕ) 
       told (damaged h e) = absurd (omega arith)
       told (earlier e) = absurd (omega arith)
       told (crowded n f s e) = absurd (omega arith)
-      told (fitting n f s e) = (n, f .four, f .reads, f .in-order, s)
+      told (fitting n f s e) = (n, f .long, f .reads, f .in-order, s)

@@ -46,7 +46,7 @@ pub record Linked (ws : List ℕ) (period : ℕ) (accepted : List Notice) : Type
 
 -- a sound book is not refused
 usable : (ws : List ℕ) → sound ws ≡ true → bookRefusal ws ≡ 0
-usable ws h = usable-book ws (sound-book ws h .four) h
+usable ws h = usable-book ws (sound-book ws h .long) h
 
 module _ (ws : List ℕ) (period : ℕ) (accepted : List Notice) (l : Linked ws period accepted) where
   -- the entries that an apply would write are the machine's change days with the notice appended
@@ -72,7 +72,7 @@ module _ (ws : List ℕ) (period : ℕ) (accepted : List Notice) (l : Linked ws 
 
 -- What an accepted apply tells.
 pub record Accepted (ws bytes : List ℕ) (len : ℕ) : Type 0 where
-  pub four : headerWords ≤ len
+  pub long : headerWords ≤ len
   pub read : Notice
   pub reads : readNotice bytes ≡ notice read
   pub in-order : receivedOf ws ≤ read .received
@@ -97,7 +97,7 @@ accepted-facts ws bytes len h e = by-length (ltb len headerWords) refl (rw (usab
         → leb (length (newEntries ws n)) (held len) ≡ t
         → cond t 0 bookFull ≡ 0
         → Accepted ws bytes len
-    by-fit n l q r true p z = record { four = l; read = n; reads = q; in-order = r; fits = leb-true _ _ p }
+    by-fit n l q r true p z = record { long = l; read = n; reads = q; in-order = r; fits = leb-true _ _ p }
     by-fit n l q r false p z = absurd (omega arith)
 
     by-order :
@@ -148,10 +148,10 @@ new-linked :
     → length (newEntries ws n) ≤ held len
     → Linked (newBook ws len n) period (n ∷ accepted)
 unfolding known bookOf
-new-linked ws period accepted n len l g four fits =
+new-linked ws period accepted n len l g long fits =
     let b = sound-book ws (l .sound) in
     record {
-      sound = sound-back len (periodOf ws) (n .received) (afterBook ws n .latest) (newEntries ws n) four fits (b .header .period-most) (g .received) (standing-after ws n (l .sound) g .latest) (new-entries-sound ws n (l .sound) g);
+      sound = sound-back len (periodOf ws) (n .received) (afterBook ws n .latest) (newEntries ws n) long fits (b .header .period-most) (g .received) (standing-after ws n (l .sound) g .latest) (new-entries-sound ws n (l .sound) g);
       period-is = l .period-is;
       received-is = refl;
       known-is =
@@ -177,7 +177,7 @@ step ws period accepted a l = go (eqb refusal 0) refl
     taken e =
         let f = accepted-facts ws (a .bytes) (length (a .new)) (l .sound) e in
         rw (accepted-words ws (a .bytes) (a .new) e (f .read) (f .reads), f .reads)
-        (new-linked ws period accepted (f .read) (length (a .new)) l (good (a .bytes) (f .read) (f .reads)) (f .four) (f .fits))
+        (new-linked ws period accepted (f .read) (length (a .new)) l (good (a .bytes) (f .read) (f .reads)) (f .long) (f .fits))
 
     go :
         (t : Bool)

@@ -18,7 +18,8 @@ use Rattle.dial_code.proofs.Tests.{positive}
 use Rattle.calendar.specs.Time.{isReceivedDay, lastReceivedDay}
 use Rattle.calendar.specs.declared.Day.{Day}
 use Rattle.notice_header.specs.HeaderRule.{full}
-use Rattle.notice_writing.specs.Layout.{headerFields, encodeHeader, encodeLines}
+use Rattle.notice_writing.specs.Layout.{headerFields, encodeHeader}
+use Rattle.line_writing.specs.LineLayout.{encodeLines}
 use Rattle.notice_line.specs.declared.Line.{Line}
 use Rattle.notice_writing.proofs.LayoutLaws.{header-bytes, notice-bytes}
 use Rattle.notice_writing.proofs.NoticeBack.{Leads, valid-leads}

@@ -54,7 +54,7 @@ module _
     (start : ℕ)
     (f : freshRefusal start 0 ≡ 0)
     (new : List ℕ)
-    (four : headerWords ≤ length new)
+    (long : headerWords ≤ length new)
     (fits : length (standingLines (entriesOf ws) (day .0)) ≤ held (length new))
   where
     list : Notice
@@ -71,7 +71,7 @@ module _
     relisted-accepted =
         taken-exactly (freshBook start 0) 0 [] (fresh-linked start 0 f) (encodeNotice list) (length new) .1 (
           list,
-          four,
+          long,
           reads,
           omega arith,
           omega (

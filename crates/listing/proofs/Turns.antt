@@ -12,9 +12,9 @@ use Rattle.varint_writing.specs.declared.Written.{Written}
 use Rattle.varint_writing.specs.declared.Written.the-variants.{UpTo, NoRoom, TooLarge}
 use Rattle.varint_writing.proofs.Writes.{writes}
 use Rattle.varint.proofs.Slices.{sets-append}
-use Rattle.notice_writing.specs.Layout.{lineFields, encodeLines}
+use Rattle.line_writing.specs.LineLayout.{lineFields, encodeLines}
 use Rattle.notice_line.specs.declared.Line.{Line}
-use Rattle.notice_writing.proofs.LayoutLaws.{line-bytes, lines-nil}
+use Rattle.line_writing.proofs.LineLayoutLaws.{line-bytes, lines-nil}
 use Rattle.book_words.specs.Layout.{entryWords, mostEntries, entryAt, entriesFrom, entriesOf}
 use Rattle.book.specs.Soundness.{sound}
 use Rattle.book_words.specs.declared.Entry.{Entry}

@@ -6,7 +6,7 @@ ghost use lib.Dec.{leb};
 ghost use lib.ListN.{length};
 ghost use lib.Seq.{sets};
 ghost use Rattle.calendar.specs.Time.{isReceivedDay};
-ghost use Rattle.notice_writing.specs.Layout.{encodeLines};
+ghost use Rattle.line_writing.specs.LineLayout.{encodeLines};
 ghost use Rattle.book_words.specs.Layout.{entriesFrom, entriesOf};
 ghost use Rattle.book.specs.Soundness.{sound};
 ghost use Rattle.standing.specs.Pass.{addedBy};
@@ -51,7 +51,7 @@ fn write_at(
     if !standing::is_standing(words, at, left, e, day) {
         return from;
     }
-    match notice_writing::write_line(out, from, standing::line_of(e)) {
+    match line_writing::write_line(out, from, standing::line_of(e)) {
         Written::UpTo(end) => end,
         // The caller has seen to the room, and every field of a line has an encoding.
         Written::NoRoom => from,

@@ -1,7 +1,5 @@
 -- The laws of writing a notice, and that what is written reads back.
 pub mod LayoutLaws
 pub mod CountryCodes
-pub mod LineBack
 pub mod NoticeBack
 pub mod Sizes
-pub mod LineSizes

@@ -18,7 +18,8 @@ use Rattle.dial_code.proofs.Tests.{and-left-true}
 use Rattle.notice_header.specs.HeaderRule.{readCountry, readNamed, headerOf, readDated, readHeader}
 use Rattle.notice.specs.NoticeRule.{Lines, lines, withLine, withFirst, readLines}
 use Rattle.notice.specs.NoticeRule.{Notice, Reading, notice, withHeader, withLines, readNotice}
-use Rattle.notice_writing.specs.Layout.{countryCount, headerFields, encodeHeader, encodeLine, encodeLines, encodeNotice}
+use Rattle.notice_writing.specs.Layout.{countryCount, headerFields, encodeHeader, encodeNotice}
+use Rattle.line_writing.specs.LineLayout.{encodeLine, encodeLines}
 use Rattle.notice_line.specs.declared.Line.{Line}
 use Rattle.notice_line.specs.declared.LineRead.{LineRead}
 use Rattle.notice_line.specs.declared.LineRead.the-variants as line
@@ -26,9 +27,10 @@ use Rattle.notice_header.specs.declared.Header.{Header}
 use Rattle.notice_header.specs.declared.HeaderRead.{HeaderRead}
 use Rattle.notice_header.specs.declared.HeaderRead.the-variants as header
 use Rattle.varint.proofs.Links.{on-value, yes-case, no-case}
-use Rattle.notice_writing.proofs.LayoutLaws.{lines-nil, lines-cons, header-bytes, notice-bytes}
+use Rattle.line_writing.proofs.LineLayoutLaws.{lines-nil, lines-cons}
+use Rattle.notice_writing.proofs.LayoutLaws.{header-bytes, notice-bytes}
 use Rattle.notice_writing.proofs.CountryCodes.{CountryValue, country-value}
-use Rattle.notice_writing.proofs.LineBack.{Past, number-back, number-past, ranged-back, past-on, line-back}
+use Rattle.line_writing.proofs.LineBack.{Past, number-back, number-past, ranged-back, past-on, line-back}
 use Rattle.notice.proofs.LinesLaws.{ValidFrom, lines-open}
 use Rattle.notice.proofs.NoticeLaws.{Valid, notice-valid}
 

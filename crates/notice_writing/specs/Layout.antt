@@ -1,4 +1,4 @@
--- Writing a notice (document 01, "Notice layout"; rates with 8 decimals as in a standing list, "Charging and writing").
+-- Writing a notice (document 01, "Notice layout").
 use mathlib.Core.Path.{_≡_, refl}
 use mathlib.Core.Bool.{cond}
 use mathlib.Core.List.{List, [], _∷_, _++_}
@@ -10,33 +10,16 @@ use Rattle.varint_encoding.specs.Several.{encodeAll}
 use Rattle.dial_code.specs.Digits.{digits}
 use Rattle.dial_code.specs.Key.{key}
 use Rattle.country_code.specs.CountryCode.{country}
-use Rattle.dial_code.specs.Key.{codeOf}
 use Rattle.allowed_code.specs.Code.{isCode}
 use Rattle.rate.specs.Price.{rate, priceOf}
-use Rattle.rate.specs.declared.Offer.{Offer}
-use Rattle.rate.specs.declared.Offer.the-variants.{Closed, Blocked, Open}
+use Rattle.rate.specs.declared.Offer.the-variants.{Open}
 use Rattle.varint.specs.Ranged.{readRanged}
-use Rattle.line_terms.specs.TermsRule.{deletes, blocks, hasRate, readIncrements, readRate, readTerms}
+use Rattle.line_terms.specs.TermsRule.{readIncrements, readRate, readTerms}
 use Rattle.line_code.specs.CodeRule.{codeField, readCode}
 use Rattle.notice_line.specs.LineRule.{lineOf, listedField, readListed, readLine}
 use Rattle.notice_header.specs.HeaderRule.{replacement, isCountryCode, readCountry, readNamed, readDated, readHeader}
+use Rattle.line_writing.specs.LineLayout.{encodeLines}
 use Rattle.notice.specs.NoticeRule.{readLines, Notice, notice, readNotice}
-use Rattle.notice_line.specs.declared.Line.{Line}
-
--- rates are sent with so many decimals: a rate counts hundred-millionths
-abbrev pub sentDecimals : ℕ
-sentDecimals = 8
-
--- What an offer sends: status 0 deletes, 1 blocks, 2 has a rate, with decimals, mantissa and increments.
-unfoldable pub offerFields : Offer → List ℕ
-offerFields Closed = deletes ∷ []
-offerFields Blocked = blocks ∷ []
-offerFields (Open r first next) = hasRate ∷ sentDecimals ∷ r .0 ∷ first ∷ next ∷ []
-
--- A line's fields: digit count and value of its code, its offer's fields, and its last field.
-unfoldable pub lineFields : Line → List ℕ
-unfolding offerFields codeOf
-lineFields l = codeOf (l .key) .count ∷ codeOf (l .key) .value ∷ offerFields (l .offer) ++ (l .listed ∷ [])
 
 -- A country code has so many digits.
 abbrev pub countryCount : ℕ → ℕ
@@ -47,36 +30,14 @@ unfoldable pub headerFields : ℕ → ℕ → ℕ → ℕ → List ℕ
 headerFields kind received named lines =
     kind ∷ received ∷ cond (eqb kind replacement) (countryCount named ∷ named ∷ lines ∷ []) (lines ∷ [])
 
--- The bytes of a line, of the fields before the lines, and of a whole notice.
-unfoldable pub encodeLine : Line → List ℕ
-unfolding lineFields encodeAll
-encodeLine l = encodeAll (lineFields l)
-
+-- The bytes of the fields before the lines, and of a whole notice.
 unfoldable pub encodeHeader : ℕ → ℕ → ℕ → ℕ → List ℕ
 unfolding headerFields encodeAll
 encodeHeader kind received named lines = encodeAll (headerFields kind received named lines)
 
-unfoldable pub encodeLines : List Line → List ℕ
-unfolding encodeLine
-encodeLines [] = []
-encodeLines (l ∷ ls) = encodeLine l ++ encodeLines ls
-
 unfoldable pub encodeNotice : Notice → List ℕ
 unfolding encodeHeader encodeLines
 encodeNotice n = encodeHeader (n .kind) (n .received) (n .country) (length (n .lines)) ++ encodeLines (n .lines)
-
--- code 1 deleted, code 44 blocked from day 6, code 23480 at 0.09 with increments 30/6
-lines-sent :
-    lineFields (lineOf (key (1 ∷ [])) Closed 0)
-    ∷ lineFields (lineOf (key (4 ∷ 4 ∷ [])) Blocked 7)
-    ∷ lineFields (lineOf (key (2 ∷ 3 ∷ 4 ∷ 8 ∷ 0 ∷ [])) (Open (rate 9000000) 30 6) 0)
-    ∷ []
-    ≡ (1 ∷ 1 ∷ 0 ∷ 0 ∷ [])
-    ∷ (2 ∷ 44 ∷ 1 ∷ 7 ∷ [])
-    ∷ (5 ∷ 23480 ∷ 2 ∷ 8 ∷ 9000000 ∷ 30 ∷ 6 ∷ 0 ∷ [])
-    ∷ []
-unfolding lineFields key
-lines-sent = refl
 
 -- each kind: a full, a partial, an update, and replacements of 7, of 44 and of 234
 headers-sent :
@@ -91,11 +52,9 @@ headers-sent :
 unfolding headerFields
 headers-sent = refl
 
--- the bytes of a line that deletes, and of the header of a replacement
-bytes-sent :
-    encodeLine (lineOf (key (4 ∷ 4 ∷ [])) Closed 300) ∷ encodeHeader 4 100 234 300 ∷ []
-    ≡ (2 ∷ 44 ∷ 0 ∷ 0xAC ∷ 2 ∷ []) ∷ (4 ∷ 100 ∷ 3 ∷ 0xEA ∷ 1 ∷ 0xAC ∷ 2 ∷ []) ∷ []
-unfolding encodeLine encodeHeader key
+-- the bytes of the header of a replacement
+bytes-sent : encodeHeader 4 100 234 300 ≡ 4 ∷ 100 ∷ 3 ∷ 0xEA ∷ 1 ∷ 0xAC ∷ 2 ∷ []
+unfolding encodeHeader
 bytes-sent = refl
 
 -- P1's notice, its bytes, and two other encodings of it: 0.09 as 9 with 2 decimals and as 90 with 3

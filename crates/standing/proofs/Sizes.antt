@@ -16,10 +16,10 @@ use Rattle.rate.specs.declared.Offer.the-variants.{Closed, Blocked, Open}
 use Rattle.rate.specs.declared.Stored.{Stored}
 use Rattle.rate.specs.declared.Stored.the-variants.{Holds, Invalid}
 use Rattle.rate.proofs.Words.{only-word, parts}
-use Rattle.notice_writing.specs.Layout.{offerFields, lineFields, encodeLine, encodeLines}
+use Rattle.line_writing.specs.LineLayout.{offerFields, lineFields, encodeLine, encodeLines}
 use Rattle.notice_line.specs.declared.Line.{Line}
-use Rattle.notice_writing.proofs.LayoutLaws.{line-opens, line-bytes, lines-nil, lines-cons, lines-append}
-use Rattle.notice_writing.proofs.Sizes.{code-fits, one-more, terms-encodable}
+use Rattle.line_writing.proofs.LineLayoutLaws.{line-opens, line-bytes, lines-nil, lines-cons, lines-append}
+use Rattle.line_writing.proofs.Encodable.{code-fits, one-more, terms-encodable}
 use Rattle.book.specs.Status.{heldOffer}
 use Rattle.book_words.specs.declared.Entry.{Entry}
 use Rattle.standing.specs.Pass.{stands, offerAt, entryLine, addedBy, passed}

@@ -12,9 +12,9 @@ use Rattle.dial_code.proofs.Tests.{and-left-true, and-left-false, and-right-fal
 use Rattle.rate.specs.OfferWord.{offerOf}
 use Rattle.rate.specs.declared.Stored.{Stored}
 use Rattle.notice_line.specs.LineRule.{lineOf}
-use Rattle.notice_writing.specs.Layout.{lineFields, encodeLines}
+use Rattle.line_writing.specs.LineLayout.{lineFields, encodeLines}
 use Rattle.notice_line.specs.declared.Line.{Line}
-use Rattle.notice_writing.proofs.LayoutLaws.{lines-nil, lines-append}
+use Rattle.line_writing.proofs.LineLayoutLaws.{lines-nil, lines-append}
 use Rattle.book_words.specs.Layout.{headerWords, entryWords, mostEntries, entryAt, entriesFrom}
 use Rattle.book.specs.Soundness.{headedCount}
 use Rattle.book.specs.Status.{heldOffer}

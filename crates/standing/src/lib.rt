@@ -2,7 +2,7 @@
 // (document 01, "Charging and writing"). Of any words: the entries are those that a sound header counts.
 ghost use mathlib.Core.Path.{_≡_};
 ghost use lib.ListN.{length};
-ghost use Rattle.notice_writing.specs.Layout.{encodeLines};
+ghost use Rattle.line_writing.specs.LineLayout.{encodeLines};
 ghost use Rattle.book_words.specs.Layout.{entriesFrom};
 ghost use Rattle.standing.specs.Pass.{stands, entryLine, addedBy, linesBy};
 use book_words::Entry;
@@ -66,7 +66,7 @@ fn added_size(words: &[u64], at: u32, left: usize, e: Entry, day: u64) -> usize
     if !is_standing(words, at, left, e, day) {
         return 0;
     }
-    notice_writing::line_size(line_of(e))
+    line_writing::line_size(line_of(e))
 }
 
 // How many lines the entries add to the list of a day. No key is taken apart.

@@ -90,7 +90,7 @@ module _
     (ws s : List ℕ) (m : Summary) (new : List ℕ) (o : sound ws ≡ true) (h : headerWords ≤ length new)
     (k : checkNotice s ≡ checked.Notice m) where
   by-judge : applyRefusal ws s (length new) ≡ judgedBy ws (ready s m k .passed .sent) (length new)
-  by-judge = judged ws s (length new) (usable-book ws (sound-book ws o .four) o) h (ready s m k .passed .read)
+  by-judge = judged ws s (length new) (usable-book ws (sound-book ws o .long) o) h (ready s m k .passed .read)
 
   pub refuses-earlier : {r : Applied} → r ≡ refusedApply receivedEarlier → m .received < receivedOf ws
       → (r ≡ applyAnswer ws s (length new)) × (new ≡ applied ws s new)

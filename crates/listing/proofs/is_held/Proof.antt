@@ -9,7 +9,7 @@ use lib.Dec.{leb}
 use lib.ListN.{length}
 use Rattle.listing.proofs.is_held.Statement.{statement}
 use Rattle.listing.proofs.is_held.Tie as tie
-use Rattle.notice_writing.specs.Layout.{encodeLines}
+use Rattle.line_writing.specs.LineLayout.{encodeLines}
 use Rattle.book_words.specs.Layout.{mostEntries, entriesOf}
 use Rattle.notice_line.specs.declared.Line.{Line}
 use Rattle.standing.proofs.Sizes.{mostLine}

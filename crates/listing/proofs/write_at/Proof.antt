@@ -9,7 +9,7 @@ use lib.Seq.{sets}
 use Prim.Native.Nat.{_+_}
 use lib.ListN.{length}
 use Rattle.varint_writing.specs.declared.Written.the-variants.{UpTo}
-use Rattle.notice_writing.specs.Layout.{encodeLines}
+use Rattle.line_writing.specs.LineLayout.{encodeLines}
 use Rattle.book_words.specs.Layout.{entriesFrom}
 use Rattle.standing.specs.Pass.{addedBy}
 use mathlib.Core.Path.{_≡_}

@@ -8,7 +8,7 @@ use borrow.Author.Needs.{needs}
 use lib.ListN.{length}
 use Rattle.listing.proofs.write_lines.Statement.{statement}
 use Rattle.listing.proofs.write_lines.Tie as tie
-use Rattle.notice_writing.specs.Layout.{encodeLines}
+use Rattle.line_writing.specs.LineLayout.{encodeLines}
 use Rattle.book_words.specs.Layout.{mostWords, entryWords, entriesFrom, entriesOf}
 use Rattle.book.proofs.Headers.{sound-book, sound-count}
 use Rattle.listing.specs.List.{standingLines}
@@ -17,7 +17,7 @@ use Rattle.standing.proofs.Turns.{length-row, none-left, starts}
 use Rattle.listing.proofs.Turns.{puts, whole}
 use lib.Seq.{sets}
 use Rattle.notice_line.specs.declared.Line.{Line}
-use Rattle.notice_writing.proofs.LayoutLaws.{lines-nil}
+use Rattle.line_writing.proofs.LineLayoutLaws.{lines-nil}
 
 abbrev Inv-loop : tie.InvT-loop
 Inv-loop words day out₀ from end₀ at₀ left₀ out end at left =

@@ -8,9 +8,9 @@ use borrow.Author.Needs.{needs}
 use lib.ListN.{length}
 use Rattle.standing.proofs.lines_size.Statement.{statement}
 use Rattle.standing.proofs.lines_size.Tie as tie
-use Rattle.notice_writing.specs.Layout.{encodeLines}
+use Rattle.line_writing.specs.LineLayout.{encodeLines}
 use Rattle.notice_line.specs.declared.Line.{Line}
-use Rattle.notice_writing.proofs.LayoutLaws.{lines-nil}
+use Rattle.line_writing.proofs.LineLayoutLaws.{lines-nil}
 use Rattle.book_words.specs.Layout.{mostWords, entryWords, entriesFrom}
 use Rattle.book.proofs.Headers.{count-room}
 use Rattle.standing.specs.Pass.{passed, linesBy}

@@ -11,10 +11,10 @@ use Rattle.varint_encoding.specs.Several.{encodableAll, encodeAll, sizeOfAll}
 use Rattle.varint_encoding.proofs.Several.{no-size, some-size}
 use Rattle.varint_encoding.proofs.Several.{all-nil, all-sized, none-all, last-large, sized, one-byte, bytes-nil, length-bytes-cons}
 use Rattle.dial_code.specs.Key.{codeOf}
-use Rattle.notice_writing.specs.Layout.{offerFields, lineFields}
+use Rattle.line_writing.specs.LineLayout.{offerFields, lineFields}
 use Rattle.notice_line.specs.declared.Line.{Line}
-use Rattle.notice_writing.proofs.LayoutLaws.{line-opens}
-use Rattle.notice_writing.proofs.Sizes.{code-fits, one-more}
+use Rattle.line_writing.proofs.LineLayoutLaws.{line-opens}
+use Rattle.line_writing.proofs.Encodable.{code-fits, one-more}
 
 -- The last field is too large.
 pub no-line : (l : Line) {last : ℕ} → last ≡ sizeOf (l .listed) → last ≡ 0 → 0 ≡ sizeOfAll (lineFields l)

@@ -4,10 +4,10 @@ use mathlib.Core.List.{List}
 use Prim.Native.Nat.{ℕ}
 use borrow.Author.Needs.{needs}
 use Rattle.varint_writing.proofs.Writes.{ComesAll}
-use Rattle.notice_writing.specs.Layout.{offerFields}
-use Rattle.notice_writing.proofs.LayoutLaws.{line-sends}
-use Rattle.notice_writing.proofs.write_line.Statement.{statement}
-use Rattle.notice_writing.proofs.write_line.Tie as tie
+use Rattle.line_writing.specs.LineLayout.{offerFields}
+use Rattle.line_writing.proofs.LineLayoutLaws.{line-sends}
+use Rattle.line_writing.proofs.write_line.Statement.{statement}
+use Rattle.line_writing.proofs.write_line.Tie as tie
 
 key-code-requires : tie.Need-key-code-requires
 key-code-requires c κs = search needs

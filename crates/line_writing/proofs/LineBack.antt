@@ -33,7 +33,7 @@ use Rattle.varint.specs.Ranged.{readRanged}
 use Rattle.line_terms.specs.TermsRule.{offered, readIncrements, readRate, readTerms}
 use Rattle.line_code.specs.CodeRule.{isCountry, readCode}
 use Rattle.notice_line.specs.LineRule.{listedField, readListed, readLine}
-use Rattle.notice_writing.specs.Layout.{offerFields, encodeLine}
+use Rattle.line_writing.specs.LineLayout.{offerFields, encodeLine}
 use Rattle.notice_line.specs.declared.Line.{Line}
 use Rattle.notice_line.specs.declared.LineRead.the-variants as line
 use Rattle.line_terms.specs.declared.Terms.the-variants as terms
@@ -41,7 +41,7 @@ use Rattle.varint.proofs.Links.{on-value, yes-case}
 use Rattle.line_code.proofs.Links.{or-left, or-yes}
 use Rattle.line_code.proofs.Codes.{code-tests}
 use Rattle.notice_line.proofs.Links.{on-offered}
-use Rattle.notice_writing.proofs.LayoutLaws.{line-opens, line-bytes}
+use Rattle.line_writing.proofs.LineLayoutLaws.{line-opens, line-bytes}
 use Rattle.notice_line.proofs.LineLaws.{ValidLine}
 
 -- From a position on stand the bytes of some numbers, and then others. Past the first `ms` of them the rest stands at `end`.

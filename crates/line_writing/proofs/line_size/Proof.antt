@@ -7,10 +7,10 @@ use Rattle.varint_encoding.specs.Encoding.{sizeOf}
 use Rattle.varint_encoding.proofs.Several.{size-most}
 use Rattle.dial_code.specs.Key.{codeOf}
 use Rattle.dial_code.specs.declared.Code.{Code}
-use Rattle.notice_writing.specs.Layout.{offerFields}
-use Rattle.notice_writing.proofs.LineSizes.{no-line, plain-size, open-size}
-use Rattle.notice_writing.proofs.line_size.Statement.{statement}
-use Rattle.notice_writing.proofs.line_size.Tie as tie
+use Rattle.line_writing.specs.LineLayout.{offerFields}
+use Rattle.line_writing.proofs.LineSizes.{no-line, plain-size, open-size}
+use Rattle.line_writing.proofs.line_size.Statement.{statement}
+use Rattle.line_writing.proofs.line_size.Tie as tie
 
 -- the sizes of the code's value and of the last field, which has one
 value-size : (c : tie.After-number-size2) →

@@ -1,0 +1,2 @@
+-- The rule of a line's bytes.
+pub mod LineLayout
