@@ -8,7 +8,7 @@ use lib.Seq.{sets, sets-eq, length-sets, drop-at}
 use Rattle.book_words.specs.Layout.{headerWords, entryWords, header, wordsOfHeader, wordsOf, bookOf}
 use Rattle.book_words.specs.declared.Entry.{Entry}
 use Rattle.book_words.proofs.BookWords.{length-words}
-use Rattle.book_words.proofs.Places.{sets-on}
+use Rattle.slice_laws.proofs.Slices.{sets-append}
 
 -- Some words set before all others.
 heads :
@@ -46,7 +46,7 @@ book-made new es {a} {b} {c} {n} period received latest h e p q r =
     let cleared : b ≡ sets new headerWords (wordsOf es ++ zeros) =
     q
     ∙ rw (p, e, same) (ap (λ (i : ℕ). sets (sets new headerWords (wordsOf es)) i zeros) place)
-    ∙ sets-on new headerWords (wordsOf es) zeros in
+    ∙ sets-append new headerWords (wordsOf es) zeros in
     let head : List ℕ = wordsOfHeader (header (length es) period received latest) in
     r
     ∙ ap (λ (x : ℕ). sets b 0 (wordsOfHeader (header x period received latest))) e

@@ -10,19 +10,14 @@ use borrow.Author.Tests.{le-leb, lt-leb}
 use lib.Dec.{leb}
 use lib.ListN.{length, getD, set, drop, replicate}
 use lib.Seq.{sets, length-sets}
-use Rattle.book_words.specs.Layout.{headerWords, entryWords, entry, wordsOf, putEntry, putEntries}
+use Rattle.slice_laws.proofs.Slices.{sets-append}
+use Rattle.book_words.specs.Layout.{headerWords, entryWords, wordsOf, putEntry, putEntries}
 use Rattle.book_words.specs.declared.Entry.{Entry}
 
 pub past-word : (ws : List ℕ) (i : ℕ) → length ws ≤ i → 0 ≡ getD ws i 0
 past-word [] i h = refl
 past-word (w ∷ ws) zero h = absurd (omega arith)
 past-word (w ∷ ws) (suc i) h = past-word ws i (omega arith)
-
--- Words stored after others.
-pub sets-on : (ws : List ℕ) (i : ℕ) (xs ys : List ℕ) → sets (sets ws i xs) (i + length xs) ys ≡ sets ws i (xs ++ ys)
-sets-on ws i [] ys = ap (λ (n : ℕ). sets ws n ys) (omega arith)
-sets-on ws i (x ∷ xs) ys =
-    ap (λ (n : ℕ). sets (sets (set ws i x) (suc i) xs) n ys) (omega arith) ∙ sets-on (set ws i x) (suc i) xs ys
 
 pub drop-replicate : (k n a : ℕ) → drop k (replicate n a) ≡ replicate (n - k) a
 drop-replicate zero n a = rw sub-zero
@@ -98,4 +93,4 @@ puts-all ws n (e ∷ es) h =
     puts-all ws₁ (n + 1) es (omega (arith, length-put ws at e))
     ∙ ap (λ (i : ℕ). sets ws₁ i (wordsOf es)) place
     ∙ ap (λ (l : List ℕ). sets l (at + 3) (wordsOf es)) there
-    ∙ sets-on ws at (e .key ∷ e .day ∷ e .offer ∷ []) (wordsOf es)
+    ∙ sets-append ws at (e .key ∷ e .day ∷ e .offer ∷ []) (wordsOf es)

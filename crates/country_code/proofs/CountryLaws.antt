@@ -5,11 +5,11 @@ use mathlib.Core.List.{List, [], _∷_}
 use Prim.Native.Nat.{ℕ, suc, _+_, _-_, _*_, _/_, _%_, _^_, _≤_, _<_}
 use native.Mathlib.Omega.{arith}
 use borrow.Author.Tests.{le-leb, ne-eqb, eqb-true, eqb-false}
-use lib.Dec.{eqb}
-use lib.ListN.{length}
-use Rattle.dial_code.specs.Digits.{every, isDigit}
+use lib.Dec.{eqb, leb}
+use lib.ListN.{length, take}
+use Rattle.dial_code.specs.Digits.{every, isDigit, value}
 use Rattle.dial_code.specs.Key.{key, keysEnd, firstPlace, thirdPlace, placesOf, digitsOfKey}
-use Rattle.country_code.specs.CountryCode.{oneDigit, twoDigits, country, countryOfKey}
+use Rattle.country_code.specs.CountryCode.{oneDigit, twoDigits, countryDigits, country, countryOfKey}
 use Rattle.country_code.specs.declared.Country.{Country}
 use Rattle.country_code.specs.declared.Country.the-variants.{Code, None}
 use Rattle.dial_code.proofs.Places.{places-none, places-some, beyond, all-places}
@@ -25,6 +25,12 @@ unfolding same
 same-eq true b e = sym e
 same-eq false true e = e
 same-eq false false e = refl
+
+-- The country of a digit string, by the test of its rule.
+pub country-opens : (ds : List ℕ)
+    → country ds ≡ cond (leb (countryDigits ds) (length ds)) (Code (value (take (countryDigits ds) ds))) None
+unfolding country
+country-opens ds = refl
 
 -- The two-digit country codes, a bit each: below 64, and from 64 to 99.
 pub low-bits : (v : ℕ) → v < 64 → eqb (17869152575837700096 / 2 ^ v % 2) 1 ≡ twoDigits v

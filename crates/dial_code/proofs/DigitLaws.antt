@@ -9,7 +9,7 @@ use native.Mathlib.Omega.{arith}
 use borrow.Author.Tests.{le-leb, leb-true, ne-eqb}
 use lib.Arith.{digits-div, digits-mod, digits-lt, mod-mul}
 use lib.Dec.{leb, lit<}
-use lib.ListN.{length}
+use lib.ListN.{length, take}
 use Rattle.dial_code.specs.Digits.{digits, value, every, isDigit, isNumber, startsWithZero, isAscii, digitOf, isDialled}
 use Rattle.dial_code.proofs.Tests.{both, and-left-true, and-right-false}
 
@@ -19,6 +19,14 @@ first-digit d ds e = omega (arith, leb-true d 9 (both (isDigit d) (every isDigit
 
 pub rest-digits : (d : ℕ) (ds : List ℕ) → every isDigit (d ∷ ds) ≡ true → every isDigit ds ≡ true
 rest-digits d ds e = both (isDigit d) (every isDigit ds) e .1
+
+-- So does a beginning of it.
+pub digits-take : (n : ℕ) (ds : List ℕ) → every isDigit ds ≡ true → every isDigit (take n ds) ≡ true
+digits-take zero ds e = refl
+digits-take (suc n) [] e = refl
+digits-take (suc n) (d ∷ ds) e =
+    let p = both (isDigit d) (every isDigit ds) e in
+    and-left-true (every isDigit (take n ds)) (p .0) ∙ digits-take n ds (p .1)
 
 -- A value written with a count of digits has that many, and they are digits.
 pub length-digits : (k v : ℕ) → length (digits k v) ≡ k

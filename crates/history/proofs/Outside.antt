@@ -15,9 +15,8 @@ use Rattle.dial_code.specs.Key.{key}
 use Rattle.country_code.specs.CountryCode.{oneDigit, countryDigits, country, countryOfKey}
 use Rattle.country_code.specs.declared.Country.{Country}
 use Rattle.country_code.specs.declared.Country.the-variants.{Code, None}
-use Rattle.dial_code.proofs.Tests.{both, and-left-true}
-use Rattle.dial_code.proofs.DigitLaws.{dialled-digits}
-use Rattle.country_code.proofs.CountryLaws.{country-of-key}
+use Rattle.dial_code.proofs.DigitLaws.{digits-take, dialled-digits}
+use Rattle.country_code.proofs.CountryLaws.{country-opens, country-of-key}
 use Rattle.allowed_code.proofs.CodeLaws.{without-country}
 use Rattle.refusal.specs.Refusal.{bookTooShort}
 use Rattle.calendar.specs.Time.{isDay}
@@ -48,13 +47,6 @@ use Rattle.history.proofs.Books.{standing-book, standing-after, new-ent
 
 -- Beginnings of digit strings.
 
-digits-take : (m : ℕ) (ds : List ℕ) → every isDigit ds ≡ true → every isDigit (take m ds) ≡ true
-digits-take zero ds e = refl
-digits-take (suc m) [] e = refl
-digits-take (suc m) (d ∷ ds) e =
-    let p = both (isDigit d) (every isDigit ds) e in
-    and-left-true (every isDigit (take m ds)) (p .0) ∙ digits-take m ds (p .1)
-
 -- A beginning as long as its country code has the country code of the whole.
 same-digits : (m : ℕ) (ds : List ℕ) → countryDigits (take m ds) ≤ length (take m ds)
     → countryDigits (take m ds) ≡ countryDigits ds
@@ -70,14 +62,9 @@ same-digits (suc zero) (a ∷ b ∷ s) h = go (oneDigit a) _ h
     go false n l = absurd (omega arith)
 same-digits (suc (suc m)) (a ∷ b ∷ s) h = refl
 
-country-test : (ds : List ℕ)
-    → country ds ≡ cond (leb (countryDigits ds) (length ds)) (Code (value (take (countryDigits ds) ds))) None
-unfolding country
-country-test ds = refl
-
 -- The country of a beginning that has one is that of the whole.
 pub prefix-country : (m : ℕ) (ds : List ℕ) {c : ℕ} → country (take m ds) ≡ Code c → country ds ≡ Code c
-prefix-country m ds {c} e = go (leb (countryDigits (take m ds)) (length (take m ds))) refl (sym (country-test (take m ds)) ∙ e)
+prefix-country m ds {c} e = go (leb (countryDigits (take m ds)) (length (take m ds))) refl (sym (country-opens (take m ds)) ∙ e)
   where
     go : (t : Bool) → leb (countryDigits (take m ds)) (length (take m ds)) ≡ t
         → cond t (Code (value (take (countryDigits (take m ds)) (take m ds)))) None ≡ Code c
@@ -86,7 +73,7 @@ prefix-country m ds {c} e = go (leb (countryDigits (take m ds)) (length (take m 
         let h : countryDigits (take m ds) ≤ length (take m ds) = leb-true _ _ p in
         let s : countryDigits (take m ds) ≡ countryDigits ds = same-digits m ds h in
         let l = length-take m ds in
-        country-test ds
+        country-opens ds
         ∙ rw (
           le-leb (countryDigits ds) (length ds) (omega arith),
           ← s,

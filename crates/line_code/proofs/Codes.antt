@@ -10,7 +10,7 @@ use lib.ListN.{length}
 use Rattle.refusal.specs.Refusal.{outOfRange, codeNotAllowed, keysNotRising, outsideCountry}
 use Rattle.varint.specs.declared.Number.the-variants.{Value, Refused}
 use Rattle.dial_code.specs.Digits.{every, isDigit, digits, isWritten}
-use Rattle.dial_code.specs.Key.{key, digitsOfKey, codeKey}
+use Rattle.dial_code.specs.Key.{key, codeKey}
 use Rattle.country_code.specs.CountryCode.{countryOfKey}
 use Rattle.allowed_code.specs.Code.{isCode, isCodeKey, sentCodeKey}
 use Rattle.dial_code.specs.declared.Keyed.the-variants as keyed
@@ -20,13 +20,10 @@ use Rattle.dial_code.proofs.KeyLaws.{digits-back}
 use Rattle.dial_code.proofs.CountedKeys.{large, sent}
 use Rattle.country_code.proofs.CountryLaws.{country-of-key}
 use Rattle.dial_code.proofs.SentKeys.{code-test}
+use Rattle.allowed_code.proofs.CodeLaws.{code-test as key-opens}
 use Rattle.allowed_code.proofs.SentCodes.{sent-test}
 use Rattle.line_code.specs.CodeRule.{isCountry, codeField}
 use Rattle.varint.proofs.Links.{yes-case, no-case}
-
-key-opens : (w : ℕ) → isCodeKey w ≡ (eqb (key (digitsOfKey w)) w && isCode (digitsOfKey w))
-unfolding isCodeKey
-key-opens w = refl
 
 -- A digit string is an allowed code exactly where its key is the key of one.
 pub key-test : (ds : List ℕ) → every isDigit ds ≡ true → length ds ≤ 15 → isCodeKey (key ds) ≡ isCode ds

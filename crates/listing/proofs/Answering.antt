@@ -13,7 +13,7 @@ use Rattle.varint_encoding.specs.Several.{sizeOfAll}
 use Rattle.varint_writing.specs.Writing.{answerAll, leavesAll}
 use Rattle.varint_writing.specs.declared.Written.{Written}
 use Rattle.varint_writing.specs.declared.Written.the-variants.{UpTo}
-use Rattle.varint.proofs.Slices.{sets-append}
+use Rattle.slice_laws.proofs.Slices.{sets-append}
 use Rattle.dial_code.proofs.Tests.{positive}
 use Rattle.calendar.specs.Time.{isReceivedDay, lastReceivedDay}
 use Rattle.calendar.specs.declared.Day.{Day}

@@ -11,7 +11,7 @@ use Rattle.varint_writing.specs.Writing.{answerAll, leavesAll}
 use Rattle.varint_writing.specs.declared.Written.{Written}
 use Rattle.varint_writing.specs.declared.Written.the-variants.{UpTo, NoRoom, TooLarge}
 use Rattle.varint_writing.proofs.Writes.{writes}
-use Rattle.varint.proofs.Slices.{sets-append}
+use Rattle.slice_laws.proofs.Slices.{sets-append}
 use Rattle.line_writing.specs.LineLayout.{lineFields, encodeLines}
 use Rattle.notice_line.specs.declared.Line.{Line}
 use Rattle.line_writing.proofs.LineLayoutLaws.{line-bytes, lines-nil}

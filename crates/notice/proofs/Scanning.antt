@@ -13,7 +13,7 @@ use Rattle.notice_line.specs.declared.LineRead.{LineRead}
 use Rattle.notice_line.specs.declared.LineRead.the-variants as line
 use Rattle.notice.specs.declared.Scan.{Scan}
 use Rattle.notice.specs.declared.Scan.the-variants as scan
-use Rattle.varint.proofs.Slices.{rest}
+use Rattle.slice_laws.proofs.Slices.{rest}
 use Rattle.notice.proofs.LinesLaws.{lines-open}
 
 -- A model of the pass: what the lines that are left come to, after lines whose earliest listed day is m.

@@ -2,7 +2,7 @@
 use mathlib.Core.Path.{_≡_, refl, ap, sym, _∙_}
 use mathlib.Core.Bool.{Bool, true, false, cond, _&&_, false≢true}
 use mathlib.Core.List.{List, [], _∷_}
-use Prim.Native.Nat.{ℕ, zero, suc, _^_, _≤_, _<_}
+use Prim.Native.Nat.{ℕ, _^_, _≤_, _<_}
 use native.Mathlib.Nat.{pow-le-pow-right, mul-le-mul-right, one-le-pow}
 use native.Mathlib.Omega.{arith}
 use borrow.Author.Tests.{lt-ltb, le-ltb, le-leb, leb-true}
@@ -11,42 +11,26 @@ use lib.ListN.{length, take}
 use lib.Seq.{take-all, length-take-le}
 use Rattle.refusal.specs.Refusal.{codeNotAllowed}
 use Rattle.varint.specs.declared.Number.the-variants.{Value, Refused}
-use Rattle.dial_code.specs.Digits.{every, isDigit, digits, value, isNumber}
+use Rattle.dial_code.specs.Digits.{digits, value, isNumber}
 use Rattle.dial_code.specs.Key.{codeKey}
 use Rattle.country_code.specs.CountryCode.{countryDigits, country, countryOfKey}
 use Rattle.allowed_code.specs.Code.{isCode, isCodeKey}
 use Rattle.country_code.specs.declared.Country.{Country}
-use Rattle.country_code.specs.declared.Country.the-variants.{Code, None}
 use Rattle.dial_code.specs.declared.Keyed.the-variants as keyed
-use Rattle.dial_code.proofs.Tests.{both, and-left-true, same-eqb, below, equal, above, order}
-use Rattle.dial_code.proofs.DigitLaws.{digits-are, value-digits, value-below, number-facts, no-digits, zero-first}
-use Rattle.country_code.proofs.CountryLaws.{country-of-key}
+use Rattle.dial_code.proofs.Tests.{both, same-eqb, below, equal, above, order}
+use Rattle.dial_code.proofs.DigitLaws.{digits-take, digits-are, value-digits, value-below, number-facts, no-digits, zero-first}
+use Rattle.allowed_code.proofs.CodeLaws.{country-test}
+use Rattle.country_code.proofs.CountryLaws.{country-opens, country-of-key}
 use Rattle.line_code.specs.CodeRule.{isCountry}
 use Rattle.notice_header.specs.HeaderRule.{isCountryCode, countryField}
 use Rattle.varint.proofs.Links.{yes-case, no-case}
 use Rattle.line_code.proofs.Codes.{key-test, few, has-key, has-none}
 
-code-opens : (ds : List ℕ) → isCode ds ≡ (isNumber ds && leb (countryDigits ds) (length ds))
-unfolding isCode
-code-opens ds = refl
-
-pub country-opens : (ds : List ℕ)
-    → country ds ≡ cond (leb (countryDigits ds) (length ds)) (Code (value (take (countryDigits ds) ds))) None
-unfolding country
-country-opens ds = refl
-
 -- An allowed code is a number, and as long as its country code.
 pub code-facts : (ds : List ℕ) → isCode ds ≡ true → (isNumber ds ≡ true) × (countryDigits ds ≤ length ds)
 code-facts ds e =
-    let p = both (isNumber ds) (leb (countryDigits ds) (length ds)) (sym (code-opens ds) ∙ e) in
+    let p = both (isNumber ds) (leb (countryDigits ds) (length ds)) (sym (country-test ds) ∙ e) in
     (p .0, leb-true _ _ (p .1))
-
-pub digits-take : (n : ℕ) (ds : List ℕ) → every isDigit ds ≡ true → every isDigit (take n ds) ≡ true
-digits-take zero ds e = refl
-digits-take (suc n) [] e = refl
-digits-take (suc n) (d ∷ ds) e =
-    let p = both (isDigit d) (every isDigit ds) e in
-    and-left-true (every isDigit (take n ds)) (p .0) ∙ digits-take n ds (p .1)
 
 pub first-some : (d : ℕ) (ds : List ℕ) → isNumber (d ∷ ds) ≡ true → 0 < d
 first-some d ds e =

@@ -7,7 +7,7 @@ use lib.ListN.{length, drop, take, length-drop, drop-of-length-le}
 use Rattle.refusal.specs.Refusal.{bytesEnd}
 use Rattle.varint.specs.Reading.{readNumber}
 use Rattle.varint.specs.Ranged.{readRanged}
-use Rattle.varint.proofs.Slices.{rest}
+use Rattle.slice_laws.proofs.Slices.{rest}
 use Rattle.line_code.specs.CodeRule.{readCode}
 use Rattle.notice_line.specs.LineRule.{readLine, lineFrom, lineAt}
 use Rattle.notice_line.specs.declared.Line.{Line}

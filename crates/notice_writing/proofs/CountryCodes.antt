@@ -14,14 +14,14 @@ use Rattle.country_code.specs.CountryCode.{oneDigit, twoDigits, countryDigits, 
 use Rattle.allowed_code.specs.Code.{isCode, isCodeKey}
 use Rattle.country_code.specs.declared.Country.the-variants.{Code}
 use Rattle.dial_code.proofs.Tests.{and-left-true}
-use Rattle.dial_code.proofs.DigitLaws.{value-below, digits-value, number-facts, number-cons, no-digits}
-use Rattle.country_code.proofs.CountryLaws.{of-digits}
+use Rattle.dial_code.proofs.DigitLaws.{digits-take, value-below, digits-value, number-facts, number-cons, no-digits}
+use Rattle.country_code.proofs.CountryLaws.{country-opens, of-digits}
 use Rattle.allowed_code.proofs.CodeLaws.{country-test}
 use Rattle.allowed_code.proofs.SentBack.{own-digits}
 use Rattle.notice_header.specs.HeaderRule.{isCountryCode}
 use Rattle.notice_writing.specs.Layout.{countryCount}
 use Rattle.varint.proofs.Links.{yes-case}
-use Rattle.notice_header.proofs.Countries.{code-facts, country-opens, digits-take, first-some, value-least, test-opens}
+use Rattle.notice_header.proofs.Countries.{code-facts, first-some, value-least, test-opens}
 
 -- The country code of a digit string by its first digits.
 one-digit : (a : ℕ) (s : List ℕ) → oneDigit a ≡ true → countryDigits (a ∷ s) ≡ 1

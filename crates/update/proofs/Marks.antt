@@ -3,7 +3,7 @@
 use mathlib.Core.Path.{_≡_, refl, ap, ap₂, sym, _∙_}
 use mathlib.Core.Bool.{Bool, true, false, cond, _||_, or-false}
 use mathlib.Core.List.{List, [], _∷_}
-use Prim.Native.Nat.{ℕ, zero, suc, _+_, _*_, _≤_, _<_}
+use Prim.Native.Nat.{ℕ, _+_, _*_, _≤_, _<_}
 use native.Mathlib.Omega.{arith}
 use borrow.Author.Tests.{lt-ltb, eq-eqb, eqb-true, eqb-false}
 use native.Mathlib.Nat.{pow-le-pow-right, lt-of-lt-of-le}
@@ -15,8 +15,7 @@ use Rattle.dial_code.specs.Key.{digitsOfKey}
 use Rattle.country_code.specs.CountryCode.{oneDigit, twoDigits, countryDigits, country, countryOfKey}
 use Rattle.country_code.specs.declared.Country.{Country}
 use Rattle.country_code.specs.declared.Country.the-variants.{Code, None}
-use Rattle.dial_code.proofs.Tests.{both, and-left-true}
-use Rattle.dial_code.proofs.DigitLaws.{value-below}
+use Rattle.dial_code.proofs.DigitLaws.{digits-take, value-below}
 use Rattle.longest_match.proofs.Matching.{word-digits}
 use Rattle.notice.specs.NoticeRule.{Notice}
 use Rattle.notice_header.specs.HeaderRule.{full, partial, replacement}
@@ -99,13 +98,6 @@ few-digits (a ∷ b ∷ ds) = go (oneDigit a) (twoDigits (a * 10 + b))
     go false true = omega arith
     go false false = omega arith
 
-digits-taken : (n : ℕ) (ds : List ℕ) → every isDigit ds ≡ true → every isDigit (take n ds) ≡ true
-digits-taken zero ds e = refl
-digits-taken (suc n) [] e = refl
-digits-taken (suc n) (d ∷ ds) e =
-    let p = both (isDigit d) (every isDigit ds) e in
-    and-left-true (every isDigit (take n ds)) (p .0) ∙ digits-taken n ds (p .1)
-
 country-few : (ds : List ℕ) (c : ℕ) → every isDigit ds ≡ true → country ds ≡ Code c → c < 1000
 unfolding country
 country-few ds c e q = go (leb (countryDigits ds) (length ds)) q
@@ -117,7 +109,7 @@ country-few ds c e q = go (leb (countryDigits ds) (length ds)) q
     short = rw (length-take (countryDigits ds) ds) (omega (arith, few-digits ds))
 
     small : value first < 1000
-    small = lt-of-lt-of-le (value-below first (digits-taken (countryDigits ds) ds e)) (pow-le-pow-right (lit< tt) {i = length first} {j = 3} short)
+    small = lt-of-lt-of-le (value-below first (digits-take (countryDigits ds) ds e)) (pow-le-pow-right (lit< tt) {i = length first} {j = 3} short)
 
     go : (t : Bool) → cond t (Code (value first)) None ≡ Code c → c < 1000
     go true r = let w : value first ≡ c = cc in omega (arith, small, w)

@@ -7,4 +7,3 @@ pub mod Links
 pub mod Ranges
 pub mod Laws
 pub mod Told
-pub mod Slices

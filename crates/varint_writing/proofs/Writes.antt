@@ -15,7 +15,7 @@ use Rattle.varint.specs.Reading.{readNumber}
 use Rattle.varint_encoding.specs.Encoding.{encode}
 use Rattle.varint_encoding.specs.Several.{encodeAll, encodableAll}
 use Rattle.varint_writing.specs.Writing.{answerAll, leftAll, leavesAll}
-use Rattle.varint.proofs.Slices.{sets-append}
+use Rattle.slice_laws.proofs.Slices.{sets-append}
 use Rattle.varint_encoding.proofs.Laws.{reads-back}
 use Rattle.varint_encoding.proofs.Several.{bytes-cons, bytes-append, all-mid, turn-bytes}
 

@@ -1,0 +1,2 @@
+-- The laws of parts of a slice.
+pub mod Slices
