@@ -88,3 +88,17 @@ noOffer = 43
 -- a blocked offer
 abbrev pub offerBlocked : ℕ
 offerBlocked = 44
+
+-- The supplier's cells, and the memory lent for their keys (document 02, request 1).
+
+-- an empty entry or range end, a stray byte, or a code that is not allowed
+abbrev pub entryNotAllowed : ℕ
+entryNotAllowed = 50
+
+-- a range with ends of unequal length, falling, or of too many codes
+abbrev pub rangeNotAllowed : ℕ
+rangeNotAllowed = 51
+
+-- more distinct keys than the lent slice holds
+abbrev pub keysTooMany : ℕ
+keysTooMany = 52

@@ -52,3 +52,12 @@ pub const DURATION_TOO_LONG: u64 = 42;
 pub const NO_OFFER: u64 = 43;
 // A blocked offer.
 pub const OFFER_BLOCKED: u64 = 44;
+
+// The supplier's cells, and the memory lent for their keys (document 02, request 1).
+
+// An empty entry or range end, a stray byte, or a code that is not allowed.
+pub const ENTRY_NOT_ALLOWED: u64 = 50;
+// A range with ends of unequal length, falling, or of too many codes.
+pub const RANGE_NOT_ALLOWED: u64 = 51;
+// More distinct keys than the lent slice holds.
+pub const KEYS_TOO_MANY: u64 = 52;

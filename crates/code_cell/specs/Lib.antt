@@ -1,0 +1,2 @@
+-- The rules of a cell of codes.
+pub mod Cell

@@ -1,0 +1,3 @@
+-- The rules of a range of codes and of one entry of a cell.
+pub mod Range
+pub mod Entry
