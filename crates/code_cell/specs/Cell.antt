@@ -148,12 +148,6 @@ blanks :
 unfolding cellKeys by-entries key digits
 blanks = refl
 
--- 1 beside 000-999 is 1,000 codes
-thousand : length (keysOf (cellKeys (num 1 1) (span 3 0 3 999) 1000)) ∷ refusalOf (cellKeys (num 1 1) (span 3 0 3 999) 999) ∷ []
-    ≡ 1000 ∷ 52 ∷ []
-unfolding cellKeys digits
-thousand = refl
-
 -- One entry alone: `61, 7-8` beside 213, the rest from the comma on, no room; an empty one beside a country
 entries :
     entryKeys (num 3 213) (by-entries (num 2 61) ((blank ∷ span 1 7 1 8) ∷ [])) 1

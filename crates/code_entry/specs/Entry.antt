@@ -10,6 +10,8 @@ use Rattle.dial_code.specs.Digits.{every, isAscii, digitOf, digits, value}
 use Rattle.allowed_code.specs.Code.{isCode}
 use Rattle.code_entry.specs.Range.{rangeOf, rangeCodes}
 use Rattle.code_entry.specs.declared.CodeRange.{CodeRange}
+use Rattle.code_entry.specs.declared.EntryRead.{EntryRead}
+use Rattle.code_entry.specs.declared.EntryRead.the-variants as entry
 use Rattle.code_entry.specs.declared.Named.{Named}
 use Rattle.code_entry.specs.declared.Named.the-variants.{Codes, Refused}
 
@@ -116,6 +118,15 @@ typedCodes c Stray = Refused entryNotAllowed
 unfoldable pub entryCodes : List ℕ → List ℕ → Named
 unfolding typedCodes typed
 entryCodes c e = cond (every isAscii c) (typedCodes (map digitOf c) (typed e)) (Refused entryNotAllowed)
+
+-- The same of the entry at the front of a cell, with how many bytes it takes, up to its comma or the end.
+abbrev pub sized : Named → ℕ → EntryRead
+sized (Codes r) n = entry.Read r n
+sized (Refused e) n = entry.Refused e
+
+unfoldable pub readEntry : List ℕ → List ℕ → EntryRead
+unfolding entryCodes entryOf
+readEntry c s = sized (entryCodes c (entryOf s)) (length (entryOf s))
 
 -- The country's own code, which a cell that is empty or all blanks means: 50.
 unfoldable pub ownCode : List ℕ → Named
@@ -237,6 +248,13 @@ ranges :
     ∷ []
 unfolding entryCodes digits
 ranges = refl
+
+-- `61 ,7` takes three bytes; `,`
+read :
+    readEntry (num 3 213) (num 2 61 ++ (blank ∷ comma ∷ num 1 7)) ∷ readEntry (num 3 213) (comma ∷ []) ∷ []
+    ≡ entry.Read (rangeOf 5 21361 1) 3 ∷ entry.Refused 50 ∷ []
+unfolding readEntry digits
+read = refl
 
 -- 355 by itself; 2 is not allowed, nor is no country
 own :

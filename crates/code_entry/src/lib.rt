@@ -12,3 +12,9 @@ pub enum Named {
     Codes(CodeRange),
     Refused(u64),
 }
+
+// The entry at the front of a cell: what it names, with how many bytes it takes up to its comma or the cell's end; or 50, 51.
+pub enum EntryRead {
+    Read(CodeRange, usize),
+    Refused(u64),
+}
