@@ -50,6 +50,12 @@ weight-most k w h e = rw e (pow-le-pow-right (lit< tt) {i = 15 - k} {j = 14} (om
 pub weighs : (k : ℕ) {place : ℕ} → place ≡ k → 11 ^ (15 - k) ≡ 11 ^ (15 - place)
 weighs k e = rw e
 
+-- From the last place on.
+pub last-weight : {place : ℕ} → 15 ≤ place → 1 ≡ 11 ^ (15 - place)
+last-weight {place} h =
+    let f : 15 - place ≡ 0 = omega arith in
+    rw f
+
 -- The key of a code sent so is below the keys' end.
 pub sent-below : (count v : ℕ) → count ≤ 15 → keyFrom 1 (digits count v) < 11 ^ 15
 unfolding key

@@ -1,6 +1,6 @@
 // Digit strings and their keys (document 01, "Codes and countries").
 ghost use mathlib.Core.Path.{_≡_};
-ghost use Prim.Native.Nat.{_-_, _≤_, _^_};
+ghost use Prim.Native.Nat.{_-_, _^_};
 ghost use Rattle.dial_code.specs.Digits.{mostDigits};
 ghost use Rattle.dial_code.specs.Key.{codeKey, codeOf, isGapless};
 
@@ -29,9 +29,8 @@ pub struct Code {
     pub value: u64,
 }
 
-// The weight of a place, 11 to the power 15 - place.
-fn weight_of(place: u64) -> u64
-    requires { ⌜ place ≤ mostDigits ⌝ }
+// The weight of a place, 11 to the power 15 - place; 1 from the last place on.
+pub fn weight_of(place: u64) -> u64
     ensures { λ r. ⌜ r ≡ 11 ^ (mostDigits - place) ⌝ }
 {
     match place {

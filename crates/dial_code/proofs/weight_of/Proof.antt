@@ -2,7 +2,7 @@
 use Prim.Native.Nat.{ℕ, zero, suc, _≤_}
 use mathlib.Core.Path.{_≡_}
 use native.Mathlib.Omega.{arith}
-use Rattle.dial_code.proofs.CountedKeys.{weighs}
+use Rattle.dial_code.proofs.CountedKeys.{weighs, last-weight}
 use Rattle.dial_code.proofs.weight_of.Statement.{statement}
 use Rattle.dial_code.proofs.weight_of.Tie as tie
 
@@ -63,7 +63,7 @@ returns-15 c = weighs 14 (c .match .keys15)
 
 returns-16 : tie.Need-returns-16
 unfolding NoneBelow
-returns-16 c = weighs 15 (omega (arith, from-on 15 (c .match .rest)))
+returns-16 c = last-weight (from-on 15 (c .match .rest))
 
 pub weight-of-spec : {M : Type 1} → statement M
 weight-of-spec = tie.close (tie.spec returns returns-2 returns-3 returns-4 returns-5 returns-6 returns-7 returns-8 returns-9 returns-10 returns-11 returns-12 returns-13 returns-14 returns-15 returns-16)

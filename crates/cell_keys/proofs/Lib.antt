@@ -1,0 +1,4 @@
+-- The laws of the keys' writing.
+pub mod Steps
+pub mod Merges
+pub mod Turns

@@ -1,0 +1,2 @@
+-- The words that definitions of the keys' writing are told in.
+pub mod Writing
