@@ -56,11 +56,10 @@ module _ (d f q : ℕ) (r : Run d f q) where
     pub old-last :
         keyAt d (f + (q - 1)) < x
         → (together d f q p l ≡ together d f q (p - 1) l ++ (x ∷ [])) × Rising (take (p - 1) l)
-    old-last o =
-        (
-          ap (insertAll (keysFrom d f q)) take-split ∙ all-before (keysFrom d f q) x (take (p - 1) l) (all-below x o),
-          ends-so .1
-        )
+    old-last o = (
+      ap (insertAll (keysFrom d f q)) take-split ∙ all-before (keysFrom d f q) x (take (p - 1) l) (all-below x o),
+      ends-so .1,
+    )
 
     -- The range's key is the last, and maybe the slice's too.
     pub new-last :
@@ -79,8 +78,8 @@ module _ (d f q : ℕ) (r : Run d f q) where
               rw (z, g)
               ((
                 ap (λ (ks : List ℕ). insertAll ks (take p l)) keys-split
-                ∙ last-new (keysFrom d f (q - 1)) (take p l) _ last-below b,
-                s
+                    ∙ last-new (keysFrom d f (q - 1)) (take p l) _ last-below b,
+                s,
               ))
           | equal c ↦
               let v : same x k ≡ 1 = same-so x k c in
@@ -89,9 +88,9 @@ module _ (d f q : ℕ) (r : Run d f q) where
               rw (z, g)
               ((
                 ap (λ (ks : List ℕ). insertAll ks (take p l)) keys-split
-                ∙ ap (insertAll (keysFrom d f (q - 1) ++ (keyAt d (f + (q - 1)) ∷ []))) (rw (c ∙ g) at take-split)
-                ∙ last-both (keysFrom d f (q - 1)) (take (p - 1) l) _ last-below b,
-                ends-so .1
+                    ∙ ap (insertAll (keysFrom d f (q - 1) ++ (keyAt d (f + (q - 1)) ∷ []))) (rw (c ∙ g) at take-split)
+                    ∙ last-both (keysFrom d f (q - 1)) (take (p - 1) l) _ last-below b,
+                ends-so .1,
               ))
           | above c ↦ absurd (omega arith)
         ]

@@ -55,10 +55,10 @@ fill-turn d f n at l₀ k v left i s l c h e =
       room = omega (arith, c .room, length-set l i k);
       long = length-set l i k ∙ c .long;
       fills =
-        ap (λ (j : ℕ). sets (set l i k) j (keysFrom d (v + 1) (left - 1))) (omega arith)
-        ∙ ap (λ (x : ℕ). sets (set l i x) (suc i) (keysFrom d (v + 1) (left - 1))) (c .keyed)
-        ∙ ap (sets l i) (sym (split d v left (r .2)))
-        ∙ c .fills;
+          ap (λ (j : ℕ). sets (set l i k) j (keysFrom d (v + 1) (left - 1))) (omega arith)
+          ∙ ap (λ (x : ℕ). sets (set l i x) (suc i) (keysFrom d (v + 1) (left - 1))) (c .keyed)
+          ∙ ap (sets l i) (sym (split d v left (r .2)))
+          ∙ c .fills;
     }
 
 pub fill-end :
@@ -199,9 +199,9 @@ module _ (d f n old : ℕ) (l₀ : List ℕ) (k q p end x : ℕ) (l : List ℕ) 
         long = length-set l (end - 1) x ∙ i .long;
         rising = subst Rising (sym w) (t .1);
         ends =
-          at-end
-          ∙ end-before d f q p q (p - 1) x l (t .0) b
-          ∙ ap (λ (s : List ℕ). length (insertAll (keysFrom d f q) s)) (sym w);
+            at-end
+            ∙ end-before d f q p q (p - 1) x l (t .0) b
+            ∙ ap (λ (s : List ℕ). length (insertAll (keysFrom d f q) s)) (sym w);
         room = omega (arith, i .room, length-set l (end - 1) x);
         merged = stored d f q p q (p - 1) x l (t .0) b (end - 1) at-end ∙ i .merged;
       }
@@ -227,9 +227,9 @@ module _ (d f n old : ℕ) (l₀ : List ℕ) (k q p end x : ℕ) (l : List ℕ) 
           long = length-set l (end - 1) k ∙ i .long;
           rising = subst Rising (sym w) (last-one .1);
           ends =
-            at-end
-            ∙ end-before d f q p (q - 1) (p - t) k l (last-one .0) in-reach
-            ∙ ap (λ (s : List ℕ). length (insertAll (keysFrom d f (q - 1)) s)) (sym w);
+              at-end
+              ∙ end-before d f q p (q - 1) (p - t) k l (last-one .0) in-reach
+              ∙ ap (λ (s : List ℕ). length (insertAll (keysFrom d f (q - 1)) s)) (sym w);
           room = omega (arith, i .room, length-set l (end - 1) k);
           merged = stored d f q p (q - 1) (p - t) k l (last-one .0) in-reach (end - 1) at-end ∙ i .merged;
         }

@@ -1,7 +1,7 @@
 -- The key of a code sent as a count of digits and a value, one digit at a time from the last. Assumes nothing.
 use mathlib.Core.Path.{_≡_, ap, sym, _∙_}
 use mathlib.Core.List.{List, [], _∷_, _++_}
-use Prim.Native.Nat.{ℕ, zero, suc, _+_, _-_, _*_, _/_, _%_, _^_, _≤_, _<_}
+use Prim.Native.Nat.{ℕ, zero, suc, _+_, _-_, _*_, _/_, _%_, _^_, _≤_, _<_, min}
 use native.Mathlib.Nat.{pow-suc, pow-succ', pow-le-pow-right, one-le-pow}
 use native.Mathlib.Nat.{div-one, div-eq-of-lt, div-div-eq-div-mul, div-lt-iff-lt-mul}
 use native.Mathlib.Omega.{arith}
@@ -54,6 +54,17 @@ weighs k e = rw e
 pub last-weight : {place : ℕ} → 15 ≤ place → 1 ≡ 11 ^ (15 - place)
 last-weight {place} h =
     let f : 15 - place ≡ 0 = omega arith in
+    rw f
+
+-- The power of ten of a number that is known, and the last.
+pub tens : (k : ℕ) → k ≤ 15 → {n : ℕ} → n ≡ k → 10 ^ k ≡ 10 ^ min n 15
+tens k h {n} e =
+    let f : min n 15 ≡ k = omega arith in
+    rw f
+
+pub last-ten : {n : ℕ} → 15 ≤ n → 10 ^ 15 ≡ 10 ^ min n 15
+last-ten {n} h =
+    let f : min n 15 ≡ 15 = omega arith in
     rw f
 
 -- The key of a code sent so is below the keys' end.

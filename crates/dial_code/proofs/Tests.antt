@@ -1,7 +1,7 @@
 -- Tests on numbers, and what they show. Assumes nothing.
 use mathlib.Core.Path.{_≡_, refl, ap, sym, _∙_}
 use mathlib.Core.Bool.{Bool, true, false, _&&_, and-eq-true-iff}
-use Prim.Native.Nat.{ℕ, zero, suc, _<_}
+use Prim.Native.Nat.{ℕ, zero, suc, _≤_, _<_}
 use native.Mathlib.Omega.{arith}
 use borrow.Author.Tests.{eq-eqb, ltb-true, ltb-false, eqb-true}
 use lib.Dec.{eqb, ltb}
@@ -68,3 +68,12 @@ each-below f (suc n) e k h =
       | equal l ↦ ap f l ∙ p .0
       | above l ↦ absurd (omega arith)
     ]
+
+-- None of the numbers below n, so n or more.
+abbrev pub NoneBelow : ℕ → ℕ → Type 0
+NoneBelow zero k = Unit
+NoneBelow (suc n) k = NoneBelow n k × (k ≡ n → ⊥)
+
+pub from-on : (n : ℕ) {k : ℕ} → NoneBelow n k → n ≤ k
+from-on zero h = omega arith
+from-on (suc n) h = let l = from-on n (h .0) in let d = h .1 in omega arith

@@ -1,6 +1,6 @@
 // Digit strings and their keys (document 01, "Codes and countries").
 ghost use mathlib.Core.Path.{_≡_};
-ghost use Prim.Native.Nat.{_-_, _^_};
+ghost use Prim.Native.Nat.{_-_, _^_, min};
 ghost use Rattle.dial_code.specs.Digits.{mostDigits};
 ghost use Rattle.dial_code.specs.Key.{codeKey, codeOf, isGapless};
 
@@ -50,6 +50,30 @@ pub fn weight_of(place: u64) -> u64
         13 => 121,
         14 => 11,
         _ => 1,
+    }
+}
+
+// 10 to the power n: values of n digits are below it. From 15 on, that of 15 digits.
+pub fn ten_to(n: u64) -> u64
+    ensures { λ r. ⌜ r ≡ 10 ^ min n mostDigits ⌝ }
+{
+    match n {
+        0 => 1,
+        1 => 10,
+        2 => 100,
+        3 => 1_000,
+        4 => 10_000,
+        5 => 100_000,
+        6 => 1_000_000,
+        7 => 10_000_000,
+        8 => 100_000_000,
+        9 => 1_000_000_000,
+        10 => 10_000_000_000,
+        11 => 100_000_000_000,
+        12 => 1_000_000_000_000,
+        13 => 10_000_000_000_000,
+        14 => 100_000_000_000_000,
+        _ => 1_000_000_000_000_000,
     }
 }
 

@@ -1,20 +1,8 @@
 -- weight_of meets its contract, place by place. Assumes nothing.
-use Prim.Native.Nat.{ℕ, zero, suc, _≤_}
-use mathlib.Core.Path.{_≡_}
-use native.Mathlib.Omega.{arith}
+use Rattle.dial_code.proofs.Tests.{from-on}
 use Rattle.dial_code.proofs.CountedKeys.{weighs, last-weight}
 use Rattle.dial_code.proofs.weight_of.Statement.{statement}
 use Rattle.dial_code.proofs.weight_of.Tie as tie
-
--- None of the numbers below n.
-NoneBelow : ℕ → ℕ → Type 0
-NoneBelow zero place = Unit
-NoneBelow (suc n) place = NoneBelow n place × (place ≡ n → ⊥)
-
-from-on : (n : ℕ) {place : ℕ} → NoneBelow n place → n ≤ place
-unfolding NoneBelow
-from-on zero h = omega arith
-from-on (suc n) h = let l = from-on n (h .0) in let d = h .1 in omega arith
 
 returns : tie.Need-returns
 returns c = weighs 0 (c .match .keys1)
@@ -62,7 +50,6 @@ returns-15 : tie.Need-returns-15
 returns-15 c = weighs 14 (c .match .keys15)
 
 returns-16 : tie.Need-returns-16
-unfolding NoneBelow
 returns-16 c = last-weight (from-on 15 (c .match .rest))
 
 pub weight-of-spec : {M : Type 1} → statement M

@@ -1,0 +1,84 @@
+-- The codes of a cell counted without memory: each code has a number of its own, its digits behind a 1, so that a range is a stretch
+-- of numbers, and the distinct codes are counted stretch by stretch.
+use mathlib.Core.Bool.{Bool, true, false, cond, _&&_, _||_}
+use mathlib.Core.List.{List, [], _∷_}
+use Prim.Native.Nat.{ℕ, _+_, _*_, _^_, max}
+use lib.Dec.{eqb, leb, ltb}
+use Rattle.dial_code.specs.Digits.{mostDigits}
+use Rattle.code_entry.specs.Range.{rangeKeys}
+use Rattle.code_entry.specs.declared.CodeRange.{CodeRange}
+use Rattle.code_entry.specs.declared.Named.{Named}
+use Rattle.code_entry.specs.declared.Named.the-variants.{Codes, Refused}
+use Rattle.code_cell.specs.Cell.{insertAll}
+use Rattle.code_cell.specs.declared.Stretch.{Stretch}
+use Rattle.code_cell.specs.declared.Survey.{Survey}
+
+-- the number of a code of k digits, and of a range's first code
+abbrev pub mark : ℕ → ℕ → ℕ
+mark k v = 10 ^ k + v
+
+abbrev pub lowOf : CodeRange → ℕ
+lowOf r = mark (r .digits) (r .first)
+
+abbrev pub highOf : CodeRange → ℕ
+highOf r = lowOf r + r .count
+
+-- every number is below this
+abbrev pub marksEnd : ℕ
+marksEnd = 2 * 10 ^ mostDigits
+
+abbrev pub stretch : ℕ → ℕ → Stretch
+stretch a b = record { low = a; high = b }
+
+-- What entries name up to the first that is refused, and why that one is; 0 if none is.
+unfoldable pub goodRanges : List Named → List CodeRange
+goodRanges [] = []
+goodRanges (Codes r ∷ ns) = r ∷ goodRanges ns
+goodRanges (Refused e ∷ ns) = []
+
+unfoldable pub firstRefusal : List Named → ℕ
+firstRefusal [] = 0
+firstRefusal (Codes r ∷ ns) = firstRefusal ns
+firstRefusal (Refused e ∷ ns) = e
+
+-- The keys of ranges, one range after the other, into the keys so far.
+unfoldable pub allKeys : List ℕ → List CodeRange → List ℕ
+allKeys l [] = l
+allKeys l (r ∷ rs) = allKeys (insertAll (rangeKeys r) l) rs
+
+-- The stretch that starts first among those from a number on: one so far, and one of a range.
+unfoldable pub closer : ℕ → Stretch → CodeRange → Stretch
+closer a s r =
+    cond (ltb a (highOf r)) (cond (ltb (max a (lowOf r)) (s .low)) (stretch (max a (lowOf r)) (highOf r)) s) s
+
+unfoldable pub closest : ℕ → Stretch → List CodeRange → Stretch
+unfolding closer
+closest a s [] = s
+closest a s (r ∷ rs) = closest a (closer a s r) rs
+
+-- A bound of the distinct codes: those of every entry, unless it names what the entry before named. Above the room it is left as it
+-- is.
+unfoldable pub sameRange : CodeRange → CodeRange → Bool
+sameRange p r = eqb (p .digits) (r .digits) && (eqb (p .first) (r .first) && eqb (p .count) (r .count))
+
+unfoldable pub added : ℕ → ℕ → CodeRange → CodeRange → ℕ
+unfolding sameRange
+added room b p r = cond (ltb room b) b (cond (sameRange p r) b (b + r .count))
+
+unfoldable pub boundOf : ℕ → ℕ → CodeRange → List Named → ℕ
+unfolding added
+boundOf room b p [] = b
+boundOf room b p (Codes r ∷ ns) = boundOf room (added room b p r) r ns
+boundOf room b p (Refused e ∷ ns) = b
+
+-- A first look at a cell: that bound, and why the first refused entry is.
+abbrev pub told : ℕ → ℕ → Survey
+told e b = record { refusal = e; bound = b }
+
+unfoldable pub surveyOf : ℕ → ℕ → CodeRange → List Named → Survey
+unfolding firstRefusal boundOf
+surveyOf room b p ns = told (firstRefusal ns) (boundOf room b p ns)
+
+-- no codes
+abbrev pub noRange : CodeRange
+noRange = record { digits = 0; first = 0; count = 0 }
