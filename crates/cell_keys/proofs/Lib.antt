@@ -2,3 +2,5 @@
 pub mod Steps
 pub mod Merges
 pub mod Turns
+pub mod Puts
+pub mod Writes

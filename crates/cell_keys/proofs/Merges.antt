@@ -44,12 +44,12 @@ module _ (d f q : ℕ) (r : Run d f q) where
       (below-append (keysFrom d f (q - 1)) _ x (below-more (keysFrom d f (q - 1)) _ x h last-below) h)
 
   module _ (p x : ℕ) (l : List ℕ) (h : 0 < p) (m : p ≤ length l) (e : x ≡ getD l (p - 1) 0) (s : Rising (take p l)) where
-    take-split : take p l ≡ take (p - 1) l ++ (x ∷ [])
+    pub take-split : take p l ≡ take (p - 1) l ++ (x ∷ [])
     take-split =
         let g : suc (p - 1) ≡ p = omega arith in
         rw (g, sym e) at (take-suc l (p - 1) 0 (omega arith))
 
-    ends-so : Below (take (p - 1) l) x × Rising (take (p - 1) l)
+    pub ends-so : Below (take (p - 1) l) x × Rising (take (p - 1) l)
     ends-so = rising-last (take (p - 1) l) x (subst Rising take-split s)
 
     -- The slice's key is the last, and what is left of it rises.

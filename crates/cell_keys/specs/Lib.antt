@@ -1,2 +1,3 @@
 -- The words that definitions of the keys' writing are told in.
 pub mod Writing
+pub mod Answers

@@ -1,6 +1,6 @@
 -- What a cell is refused for: 52 where the keys of the entries before the first refused one are too many, else that one's cause.
 -- Assumes nothing.
-use mathlib.Core.Path.{_≡_, refl, ap, sym, _∙_}
+use mathlib.Core.Path.{_≡_, subst}
 use mathlib.Core.Bool.{Bool, true, false, cond, _&&_}
 use mathlib.Core.List.{List, [], _∷_, map}
 use Prim.Native.Nat.{ℕ, suc, _+_, _-_, _≤_, _<_}
@@ -14,13 +14,15 @@ use Rattle.dial_code.proofs.Tests.{below, equal, above, order}
 use Rattle.allowed_code.specs.Code.{isCode}
 use Rattle.code_entry.specs.Range.{rangeOf, rangeCodes, rangeKeys}
 use Rattle.code_entry.specs.Entry.{Typed, Single, Joined, Stray, typed, typedCodes, oneCode, codeRange, wholeRange, entryCodes, ownCode}
-use Rattle.code_entry.specs.Entry.{allCodes, mostCodes, isTyped, codeOf}
+use Rattle.code_entry.specs.Entry.{allCodes, mostCodes, isTyped, codeOf, entryOf, readEntry}
 use Rattle.code_entry.specs.declared.CodeRange.{CodeRange}
 use Rattle.code_entry.specs.declared.Named.{Named}
 use Rattle.code_entry.specs.declared.Named.the-variants.{Codes, Refused}
+use Rattle.code_entry.specs.declared.EntryRead.the-variants as entry
 use Rattle.code_cell.specs.Cell.{insertAll, CellKeys, Keys, NoKeys, keysNamed}
 use Rattle.code_cell.specs.Count.{goodRanges, firstRefusal, allKeys}
 use Rattle.code_cell.proofs.Inserts.{all-longer}
+use Rattle.code_cell.proofs.Names.{read-refused}
 
 -- A refusal has a number.
 abbrev pub Caused : Named → Type 0
@@ -61,6 +63,9 @@ unfolding entryCodes
 entry-caused c e =
     either (every isAscii c) (typedCodes (map digitOf c) (typed e)) (Refused entryNotAllowed)
     (typed-caused (map digitOf c) (typed e)) (lit< tt)
+
+pub read-caused : (c s : List ℕ) (q : ℕ) → readEntry c s ≡ entry.Refused q → 0 < q
+read-caused c s q e = subst Caused (read-refused c s q e) (entry-caused c (entryOf s))
 
 pub own-caused : (c : List ℕ) → Caused (ownCode c)
 unfolding ownCode

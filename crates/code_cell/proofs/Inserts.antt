@@ -1,7 +1,7 @@
 -- Keys put into a rising list: it stays rising and loses none; at its end a key above all is appended, and keys below the last
 -- leave it the last. Assumes nothing.
 use mathlib.Core.Path.{_≡_, refl, ap, sym, _∙_}
-use mathlib.Core.List.{List, [], _∷_, _++_}
+use mathlib.Core.List.{List, [], _∷_, _++_, append-nil}
 use Prim.Native.Nat.{ℕ, suc, _+_, _≤_, _<_}
 use native.Mathlib.Omega.{arith}
 use borrow.Author.Tests.{lt-ltb, le-ltb, eq-eqb, ne-eqb}
@@ -184,3 +184,25 @@ all-into-none (k ∷ ks) r = ap (insert k) (all-into-none ks (r .1)) ∙ insert-
 pub all-none : (l : List ℕ) → insertAll [] l ≡ l
 unfolding insertAll
 all-none l = refl
+
+-- Rising keys above all are appended.
+abbrev Aboves : List ℕ → List ℕ → Type 0
+Aboves [] l = Unit
+Aboves (k ∷ ks) l = Below l k × Aboves ks l
+
+aboves-all : (j : ℕ) (ks l : List ℕ) → Above j ks → Below l j → Aboves ks l
+aboves-all j [] l a b = tt
+aboves-all j (k ∷ ks) l a b = (below-more l j k (a .0) b, aboves-all j ks l (a .1) b)
+
+insert-between : (k : ℕ) (l m : List ℕ) → Below l k → Above k m → insert k (l ++ m) ≡ l ++ (k ∷ m)
+insert-between k [] m b a = insert-first k m a
+insert-between k (x ∷ xs) m b a =
+    insert-more k x (xs ++ m) (b .0) ∙ ap (λ (s : List ℕ). x ∷ s) (insert-between k xs m (b .1) a)
+
+all-above : (ks l : List ℕ) → Rising ks → Aboves ks l → insertAll ks l ≡ l ++ ks
+unfolding insertAll
+all-above [] l r a = sym (append-nil l)
+all-above (k ∷ ks) l r a = ap (insert k) (all-above ks l (r .1) (a .1)) ∙ insert-between k l ks (a .0) (r .0)
+
+pub all-last : (k : ℕ) (ks l : List ℕ) → Rising (k ∷ ks) → Below l k → insertAll (k ∷ ks) l ≡ l ++ (k ∷ ks)
+all-last k ks l r b = all-above (k ∷ ks) l r (b, aboves-all k ks l (r .0) b)

@@ -55,7 +55,7 @@ module _ (c s : List ℕ) where
       go (Codes q) f g = let p : q ≡ r = cc in (f ∙ ap Codes p, cc)
       go (Refused q) f g = let z : _≡_ {A = ℕ} 0 1 = cc in absurd (omega arith)
 
-  read-refused : (q : ℕ) → readEntry c s ≡ entry.Refused q → entryCodes c (entryOf s) ≡ Refused q
+  pub read-refused : (q : ℕ) → readEntry c s ≡ entry.Refused q → entryCodes c (entryOf s) ≡ Refused q
   unfolding readEntry
   read-refused q e = go (entryCodes c (entryOf s)) refl e
     where
@@ -95,7 +95,7 @@ module _ (c s : List ℕ) (at : ℕ) (h : at ≤ length s) where
     pub named-writable : Writable r
     named-writable = writable c (entryOf (drop at s)) r (p .0)
 
-    opened : namedAt c s at ≡ Codes r ∷ map (entryCodes c) (later (restOf (drop at s)))
+    pub opened : namedAt c s at ≡ Codes r ∷ map (entryCodes c) (later (restOf (drop at s)))
     opened =
         ap (map (entryCodes c)) (entries-first (drop at s))
         ∙ ap (λ (x : Named). x ∷ map (entryCodes c) (later (restOf (drop at s)))) (p .0)
