@@ -4,3 +4,4 @@ pub mod Merges
 pub mod Turns
 pub mod Puts
 pub mod Writes
+pub mod Ones

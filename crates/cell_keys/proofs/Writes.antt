@@ -143,9 +143,9 @@ module _ (c s k₀ : List ℕ) where
               within = omega arith;
               words = words-next;
               goes-on =
-                sym
-                (put-next (length k₀) (w .so-far) good r _ (next-at c s at (w .within) r m e l) .1)
-                ∙ w .goes-on;
+                  sym
+                  (put-next (length k₀) (w .so-far) good r _ (next-at c s at (w .within) r m e l) .1)
+                  ∙ w .goes-on;
             }
 
         pub end : at + m ≡ length s

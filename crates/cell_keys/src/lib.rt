@@ -218,10 +218,16 @@ fn write_own(country: &[u8], keys: &mut [u64]) -> CellCount
     ensures { λ _. ⌜ now (keys .exit) ≡ sets (now (keys .entry)) 0 (keysOf (keysNamed (length (now (keys .entry))) [] (ownCode (now (country .entry)) ∷ []))) ⌝ }
 {
     match code_entry::own_code(country) {
-        Named::Refused(e) => CellCount { refusal: e, count: 0 },
+        Named::Refused(e) => CellCount {
+            refusal: e,
+            count: 0,
+        },
         Named::Codes(range) => {
             if write_range(range, keys) == 0 {
-                return CellCount { refusal: 0, count: 1 };
+                return CellCount {
+                    refusal: 0,
+                    count: 1,
+                };
             }
             CellCount {
                 refusal: refusal::KEYS_TOO_MANY,
@@ -241,7 +247,10 @@ pub fn cell_keys(country: &[u8], cell: &[u8], keys: &mut [u64]) -> CellCount
     }
     let e = code_cell::cell_refusal(country, cell, keys);
     if e != 0 {
-        return CellCount { refusal: e, count: 0 };
+        return CellCount {
+            refusal: e,
+            count: 0,
+        };
     }
     let n = write_entries(country, cell, keys);
     CellCount {
@@ -261,7 +270,7 @@ pub fn entry_keys<'a>(
 ) -> &'a [u8]
     ensures { λ r. ⌜ now r ≡ restAfter (entryKeys (now (country .entry)) (now (cell .entry)) (length (now (keys .entry)))) (now (cell .entry)) ⌝ }
     ensures { λ _. ⌜ now (keys .exit) ≡ sets (now (keys .entry)) 0 (keysOf (entryKeys (now (country .entry)) (now (cell .entry)) (length (now (keys .entry))))) ⌝ }
-    ensures { λ _. ⌜ now (answer .exit) ≡ countWords (entryKeys (now (country .entry)) (now (cell .entry)) (length (now (keys .entry)))) ⌝ }
+    ensures { λ _. ⌜ now (answer .exit) ≡ sets (now (answer .entry)) 0 (countWords (entryKeys (now (country .entry)) (now (cell .entry)) (length (now (keys .entry))))) ⌝ }
 {
     match code_entry::read_entry(country, cell) {
         EntryRead::Refused(e) => {

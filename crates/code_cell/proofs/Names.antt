@@ -46,7 +46,7 @@ rest-some s h =
 
 -- What an entry that is read names.
 module _ (c s : List ℕ) where
-  read-codes : (r : CodeRange) (n : ℕ) → readEntry c s ≡ entry.Read r n → (entryCodes c (entryOf s) ≡ Codes r) × (length (entryOf s) ≡ n)
+  pub read-codes : (r : CodeRange) (n : ℕ) → readEntry c s ≡ entry.Read r n → (entryCodes c (entryOf s) ≡ Codes r) × (length (entryOf s) ≡ n)
   unfolding readEntry
   read-codes r n e = go (entryCodes c (entryOf s)) refl e
     where

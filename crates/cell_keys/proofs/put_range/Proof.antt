@@ -31,10 +31,9 @@ key-of-requires c κs = run-one _ _ _ (run-of _ (c .before .pre .0))
 fill-requires : tie.Need-fill-requires
 fill-requires c κs =
     let p = c .before .before .before .before .pre in
-    let a = c .before .before .before .before .args in
-    (
+    let a = c .before .before .before .before .args in (
       run-of _ (p .0),
-      (c .before .before .key-of .ensures, omega (arith, p .1 .1 .1, ap length (first-put (a .range) (a .old) (a .keys .now) (p .0) (c .before .if1 .taken)), length-keys (a .range .digits) (a .range .first) (a .range .count)))
+      (c .before .before .key-of .ensures, omega (arith, p .1 .1 .1, ap length (first-put (a .range) (a .old) (a .keys .now) (p .0) (c .before .if1 .taken)), length-keys (a .range .digits) (a .range .first) (a .range .count))),
     )
 
 -- src/lib.rt:154:9
@@ -65,10 +64,9 @@ slice-read-if2 c = search needs
 fill-requires-2 : tie.Need-fill-requires-2
 fill-requires-2 c κs =
     let p = c .before .before .before .before .before .before .pre in
-    let a = c .before .before .before .before .before .before .args in
-    (
+    let a = c .before .before .before .before .before .before .args in (
       run-of _ (p .0),
-      (c .before .before .before .before .key-of .ensures, omega (arith, p .1 .1 .1, above-length (a .range) (a .old) (a .keys .now) (p .0) (p .1 .0) (c .before .before .before .if1 .left) (p .1 .1 .0) _ (c .before .before .before .before .key-of .ensures) (c .before .if2 .taken)))
+      (c .before .before .before .before .key-of .ensures, omega (arith, p .1 .1 .1, above-length (a .range) (a .old) (a .keys .now) (p .0) (p .1 .0) (c .before .before .before .if1 .left) (p .1 .1 .0) _ (c .before .before .before .before .key-of .ensures) (c .before .if2 .taken))),
     )
 
 -- src/lib.rt:158:16
@@ -86,10 +84,9 @@ returns-2 c =
     let a = c .before .before .before .before .before .before .before .before .before .args in
     let z = c .before .before .before .before .before .before .if1 .left in
     let e = c .before .before .before .before .before .before .before .key-of .ensures in
-    let o = c .before .before .before .before .if2 .taken in
-    (
+    let o = c .before .before .before .before .if2 .taken in (
       sym (above-length (a .range) (a .old) (a .keys .now) (p .0) (p .1 .0) z (p .1 .1 .0) _ e o),
-      c .before .before .fill2 .ensures ∙ above-words (a .range) (a .old) (a .keys .now) (p .0) (p .1 .0) z (p .1 .1 .0) _ e o
+      c .before .before .fill2 .ensures ∙ above-words (a .range) (a .old) (a .keys .now) (p .0) (p .1 .0) z (p .1 .1 .0) _ e o,
     )
 
 -- src/lib.rt:160:9
@@ -101,10 +98,9 @@ merge-requires : tie.Need-merge-requires
 merge-requires c κs =
     let p = c .before .before .before .before .before .before .before .before .pre in
     let a = c .before .before .before .before .before .before .before .before .args in
-    let e = c .before .count-together .ensures in
-    (
+    let e = c .before .count-together .ensures in (
       run-of _ (p .0),
-      (p .1 .0, ((p .1 .1 .0, omega (arith, e, ap length (put-so (a .range) (a .old) (a .keys .now)), p .1 .1 .1)), e))
+      (p .1 .0, ((p .1 .1 .0, omega (arith, e, ap length (put-so (a .range) (a .old) (a .keys .now)), p .1 .1 .1)), e)),
     )
 
 -- src/lib.rt:141:1
@@ -115,10 +111,9 @@ same-length-3 c = search needs
 returns-3 : tie.Need-returns-3
 returns-3 c =
     let a = c .before .before .before .before .before .before .before .before .before .before .before .args in
-    let q = put-so (a .range) (a .old) (a .keys .now) in
-    (
+    let q = put-so (a .range) (a .old) (a .keys .now) in (
       c .before .before .before .before .count-together .ensures ∙ sym (ap length q),
-      c .before .before .merge .ensures ∙ ap (sets (a .keys .now) 0) (sym q)
+      c .before .before .merge .ensures ∙ ap (sets (a .keys .now) 0) (sym q),
     )
 
 pub put-range-spec : {M : Type 1} → statement M

@@ -43,7 +43,6 @@ within-at c =
     let a = c .before .before .before .before .before .before .before .before .args in
     ends-within (a .country .now) (a .cell .now) (l .at) (l .inv .within) _ _ (read-at c)
 
-
 -- src/lib.rt:173:5
 loop-holds : tie.Need-loop-holds Inv-loop μ-loop
 loop-holds c = let a = c .before .before .before .args in begun (a .country .now) (a .cell .now) (a .keys .now)
@@ -92,13 +91,12 @@ put-range-requires : tie.Need-put-range-requires Inv-loop μ-loop
 put-range-requires c κs =
     let a = c .before .before .before .before .before .before .before .before .before .before .args in
     let l = c .before .before .before .before .before .before .loop in
-    let p = c .before .before .before .before .before .before .before .before .before .before .pre in
-    (
+    let p = c .before .before .before .before .before .before .before .before .before .before .pre in (
       named-writable (a .country .now) (a .cell .now) (l .at) (l .inv .within) _ _ (read-at (c .before .before)),
       (
         front-rising (a .country .now) (a .cell .now) (a .keys .now) _ _ _ (l .inv) p,
-        enough (a .country .now) (a .cell .now) (a .keys .now) _ _ _ (l .inv) p _ _ (read-at (c .before .before))
-      )
+        enough (a .country .now) (a .cell .now) (a .keys .now) _ _ _ (l .inv) p _ _ (read-at (c .before .before)),
+      ),
     )
 
 -- src/lib.rt:180:17
