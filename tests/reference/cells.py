@@ -1,5 +1,6 @@
 """Cells of codes as suppliers type them, all at once and entry by entry (document 02, request 1)."""
 
+from functools import lru_cache
 from typing import NamedTuple
 
 from reference import codes, fields
@@ -36,6 +37,7 @@ def code(country, typed):
     return country + digits
 
 
+@lru_cache(maxsize=2**6)
 def between(first, last):
     """The codes of a range, its ends and all of their length between; both ends are allowed. Refusal 50, 51."""
     refuse(51, len(first) != len(last) or int(first) > int(last))
