@@ -248,6 +248,17 @@ pub struct Batch {
 }
 
 /// The first entry of a cell, read.
+///
+/// The rest is part of the cell, and so does not outlive it:
+///
+/// ```compile_fail
+/// let mut keys = [0; 1];
+/// let read = {
+///     let cell = b"44, 46".to_vec();
+///     rate_book::cell_entry(b"", &cell, &mut keys)
+/// };
+/// assert!(read.is_ok());
+/// ```
 #[must_use]
 #[derive(Clone, Copy, Debug, PartialEq, Eq, Hash)]
 pub struct CellEntry<'a> {

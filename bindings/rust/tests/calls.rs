@@ -830,18 +830,14 @@ fn a_cell_is_read_entry_by_entry() {
 #[test]
 fn the_first_entry_of_a_cell() {
     let mut keys = [9; 2];
-    // The rest is part of the cell, not of the keys.
+    // The rest is borrowed from the cell alone.
     let text = b"7-8,x".to_vec();
     let read = cell_entry(b"213", &text, &mut keys);
-    keys[1] = 0;
-    assert_eq!(
-        read,
-        Ok(CellEntry {
-            count: 2,
-            rest: &text[3..]
-        })
-    );
-    let mut keys = [9; 2];
+    assert_eq!(keys.map(|key| Key(key).to_string()), ["2137", "2138"]);
+    let rest = &text[3..];
+    assert_eq!(read, Ok(CellEntry { count: 2, rest }));
+
+    keys = [9; 2];
     let mut refused = |text: &[u8], room| cell_entry(b"213", text, &mut keys[..room]).unwrap_err();
     assert_eq!(refused(b"", 2), Refusal::EntryNotAllowed);
     assert_eq!(refused(b"  ", 2), Refusal::EntryNotAllowed);
