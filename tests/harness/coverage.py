@@ -120,7 +120,7 @@ def of_cell(call, country, data, outcome, length):
 
 def of_entries(call, country, entries):
     """What entries that are not refused are like, and how their keys stand to each other."""
-    last, seen = 0, set()
+    seen = set()
     for entry in entries:
         if entry_kind(entry) not in NAMING:
             continue
@@ -130,13 +130,12 @@ def of_entries(call, country, entries):
         keys = [codes.key(digits) for digits in cells.entry_codes(country, entry)]
         if len(keys) in (1, cells.MOST_CODES) and b"-" in entry:
             yield call, "range of", len(keys)
-        if len(keys[:2]) == 2 and any(keys[0] < each < keys[-1] and each not in keys for each in seen):
-            yield call, "interleaved"
-        if call == "cell" and seen:
+        if seen:
             repeats = len(seen.intersection(keys))
             yield call, "repeats", "none" if repeats == 0 else "all" if repeats == len(keys) else "some"
-            yield call, "rising" if keys[0] > last else "falling" if keys[-1] < min(seen) else "between"
-        last = max(last, keys[-1])
+            yield call, "rising" if keys[0] > max(seen) else "falling" if keys[-1] < min(seen) else "between"
+        if any(keys[0] < each < keys[-1] for each in seen.difference(keys)):
+            yield call, "interleaved"
         seen.update(keys)
 
 
