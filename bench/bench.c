@@ -9,13 +9,15 @@
 #include <string.h>
 #include <time.h>
 
-enum { ROUNDS = 25, NUMBERS = 16, CALLS = MOST };
+enum { ROUNDS = 25, NUMBERS = 16, CALLS = MOST, MOST_CELL = 1 << 16 };
 
 static const double LEAST_NS = 1e6; /* of one timed run */
 
 static uint64_t book[BOOK_WORDS], new_book[BOOK_WORDS], rows[4 * CALLS];
 static size_t book_len, notice_len, batch_len;
 static uint8_t notice[MOST_NOTICE], batch[MOST_NOTICE], list[MOST_NOTICE];
+static char cell[MOST_CELL];
+static size_t cell_len, keys_len;
 static char numbers[NUMBERS][16];
 static size_t number_len[NUMBERS];
 static unsigned turn;
@@ -63,6 +65,16 @@ static void library_list(void)
 static void plain_list_one(void)
 {
     sink = plain_list(book, book_len, TODAY, list, sizeof list).length;
+}
+
+static void library_cell(void)
+{
+    sink = rate_book_cell((const uint8_t *)"", 0, (const uint8_t *)cell, cell_len, rows, keys_len).count;
+}
+
+static void plain_cell_one(void)
+{
+    sink = plain_cell((const uint8_t *)"", 0, (const uint8_t *)cell, cell_len, rows, keys_len).count;
 }
 
 static double run(void (*f)(void), unsigned times)
@@ -162,6 +174,41 @@ static void time_writing(size_t entries)
     time_apply("first", entries);
 }
 
+static void add_entry(const char *form, unsigned value)
+{
+    cell_len += snprintf(cell + cell_len, MOST_CELL - cell_len, form, cell_len == 0 ? "" : ",", value, value);
+}
+
+static void time_cell(const char *what, size_t size)
+{
+    accepted(what, same_cell("", 0, cell, cell_len, keys_len));
+    report(what, size, measure(library_cell, plain_cell_one));
+    cell_len = 0;
+}
+
+/* Cells without a country cell, with exactly the words for their keys. */
+static void time_cells(void)
+{
+    const unsigned ranges[] = {10, 64}, singles[] = {1000, 2000}, repeats[] = {1000, 3001};
+    for (int i = 0; i < 2; i++) {
+        keys_len = 1000 * ranges[i];
+        for (unsigned k = 0; k < ranges[i]; k++)
+            add_entry("%s%u000-%u999", 2130 + k);
+        time_cell("cell-rising", keys_len);
+        for (unsigned k = ranges[i]; k-- > 0;)
+            add_entry("%s%u000-%u999", 2130 + k);
+        time_cell("cell-falling", keys_len);
+        keys_len = singles[i];
+        for (unsigned k = singles[i]; k-- > 0;)
+            add_entry("%s%u", 213000 + k);
+        time_cell("cell-singles", keys_len);
+        keys_len = 1;
+        for (unsigned k = 0; k < repeats[i]; k++)
+            add_entry("%s%u", 1);
+        time_cell("cell-repeats", repeats[i]);
+    }
+}
+
 int main(int argc, char **argv)
 {
     const size_t reading[] = {1000, 10000, 60000}, writing[] = {1000, 10000, 65535};
@@ -173,5 +220,6 @@ int main(int argc, char **argv)
         time_reading(reading[i]);
     for (int i = 0; i < 3; i++)
         time_writing(writing[i]);
+    time_cells();
     return 0;
 }

@@ -82,6 +82,47 @@ void same_list(const uint64_t *book, size_t len, uint64_t day, size_t out_len)
     hold("list", a.refusal, memcmp(&a, &b, sizeof a) == 0 && memcmp(bytes_a, bytes_b, out_len) == 0);
 }
 
+uint64_t same_cell(const char *country, size_t country_len, const char *cell, size_t cell_len, size_t keys_len)
+{
+    const uint8_t *c = (const uint8_t *)country, *s = (const uint8_t *)cell;
+    dirty_words(keys_len);
+    rate_book_cell_keys a = rate_book_cell(c, country_len, s, cell_len, words_a, keys_len);
+    struct plain_cell b = plain_cell(c, country_len, s, cell_len, words_b, keys_len);
+    hold("cell", a.refusal, memcmp(&a, &b, sizeof a) == 0 && same_words(keys_len));
+    return a.refusal;
+}
+
+void same_cell_entry(const char *country, size_t country_len, const char *cell, size_t cell_len, size_t keys_len)
+{
+    const uint8_t *c = (const uint8_t *)country, *s = (const uint8_t *)cell;
+    dirty_words(keys_len);
+    rate_book_entry_keys a = rate_book_cell_entry(c, country_len, s, cell_len, words_a, keys_len);
+    struct plain_cell_entry b = plain_cell_entry(c, country_len, s, cell_len, words_b, keys_len);
+    hold("cell_entry", a.refusal, memcmp(&a, &b, sizeof a) == 0 && same_words(keys_len));
+}
+
+/* ---- random cells ---- */
+
+static void check_cells(void)
+{
+    static const char *const countries[] = {"", "", "1", "213", "2", "44", "99912345678901", "21 "};
+    const char *country = countries[random_below(8)];
+    char cell[400];
+    size_t n = 0, entries = random_below(7);
+    uint64_t stem = 400 + random_below(20), most = random_below(4) == 0 ? 1010 : 1 + random_below(30);
+    for (size_t i = 0; i < entries; i++) {
+        uint64_t first = random_below(3) ? stem * 10 + random_below(10) : stem + random_below(10);
+        n += snprintf(cell + n, 40, "%s%s%llu", i == 0 ? "" : ",", random_below(3) ? "" : " ", (unsigned long long)first);
+        if (random_below(2))
+            n += snprintf(cell + n, 40, "-%llu", (unsigned long long)(first + random_below(most)));
+    }
+    if (n > 0 && random_below(6) == 0)
+        cell[random_below(n)] = " ,-09x"[random_below(6)];
+    same_cell(country, strlen(country), cell, n, random_below(3) ? 60 : random_below(1100));
+    same_cell(country, strlen(country), cell, n, random_below(30));
+    same_cell_entry(country, strlen(country), cell, n, random_below(3) ? 60 : random_below(1100));
+}
+
 /* ---- random histories ---- */
 
 static const char *const pool[] = {
@@ -247,6 +288,8 @@ void check_random(unsigned histories)
         size_t len = 4 + random_below(200);
         uint64_t near = random_below(random_below(8) == 0 ? 60000 : 300);
         same_fresh(random_below(8), random_below(10) == 0 ? 360 + random_below(10) : random_below(20));
+        for (unsigned i = 0; i < 20; i++)
+            check_cells();
         if (rate_book_fresh(book, len, random_below(20) == 0 ? 365 : random_below(15)) != RATE_BOOK_NOT_REFUSED) {
             fprintf(stderr, "a fresh book is refused\n");
             exit(1);

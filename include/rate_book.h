@@ -12,7 +12,7 @@
  *   - A slice that a call writes overlaps no other slice of that call: the old and the new book of an apply are two.
  *   - Until a call returns, nobody else writes its slices or reads the one that it writes.
  * Calls that keep to this may run at the same time, on different books or on one book that all only read.
- * What the slices hold is tested by the library: a damaged book, notice or batch is refused.
+ * What the slices hold is tested by the library: a damaged book, notice, batch or cell is refused.
  *
  * Linking: librate_book.a is for x86-64 Linux. It needs memset, which every C runtime and Rust's compiler-builtins have, nothing
  * else, and less than 4 KiB of stack (measured).
@@ -39,6 +39,11 @@
  *   line     digit count and value of the code; status (enum rate_book_line); for a rate only, decimals 0 to 12, mantissa 0 to
  *            10^10, first and next increment in seconds, 1 to 255 each; listed day plus one, or 0 for none
  *   batch    number of calls, 0 to 65,535; for each, digit count and value of the number, moment, duration
+ *
+ * A cell is bytes as a supplier types them: entries split by commas, each a code or a range, two codes joined by a dash; blanks
+ * (byte 32) only around an entry. A range names its ends and all codes of their length between. The digits of a country cell beside
+ * it go before every code, and a cell that is empty or all blanks then means the country's own code. A country cell has digits and
+ * nothing else; an empty one is the same as none.
  *
  * Refusals
  * Each call but rate_book_words answers with a refusal number, 0 for none: the first in the call's order whose cause holds. With a
@@ -92,7 +97,12 @@ enum rate_book_refusal {
     RATE_BOOK_TIME_OUT_OF_RANGE = 41, /* a day or moment beyond its end; for a list, a day above 60,000 */
     RATE_BOOK_DURATION_TOO_LONG = 42, /* a duration above 604,800 s */
     RATE_BOOK_NO_OFFER = 43,          /* no offer for the number; for a list, nothing standing */
-    RATE_BOOK_OFFER_BLOCKED = 44      /* the offer is blocked; the answer keeps the matched key */
+    RATE_BOOK_OFFER_BLOCKED = 44,     /* the offer is blocked; the answer keeps the matched key */
+
+    /* The supplier's cells, and the memory lent for their keys. */
+    RATE_BOOK_ENTRY_NOT_ALLOWED = 50, /* an empty entry or range end, a stray byte, a code not allowed */
+    RATE_BOOK_RANGE_NOT_ALLOWED = 51, /* a range with ends of unequal length, falling ends or more than 1,000 codes */
+    RATE_BOOK_KEYS_TOO_MANY = 52      /* more distinct keys than the lent slice holds */
 };
 
 /* The status of an offer. */
@@ -131,6 +141,7 @@ enum rate_book_line {
 #define RATE_BOOK_MOST_LINES 65535   /* of a notice */
 #define RATE_BOOK_MOST_ENTRIES 65535 /* of a book */
 #define RATE_BOOK_MOST_CALLS 65535   /* of a batch */
+#define RATE_BOOK_MOST_CODES 1000    /* of a range in a cell, and so keys of one entry */
 
 #define RATE_BOOK_HEADER_WORDS 4 /* of a book: those named by RATE_BOOK_WORD_ .. */
 #define RATE_BOOK_WORD_ENTRIES 0
@@ -182,6 +193,19 @@ typedef struct {
     uint64_t refusal;
     uint64_t length; /* in bytes */
 } rate_book_listed;
+
+/* The keys of a cell. */
+typedef struct {
+    uint64_t refusal;
+    uint64_t count; /* keys written */
+} rate_book_cell_keys;
+
+/* The keys of a cell's first entry. */
+typedef struct {
+    uint64_t refusal;
+    uint64_t count; /* keys written */
+    uint64_t rest;  /* where the part still to be read begins: at the entry's comma, or cell_len; 0 with a refusal */
+} rate_book_entry_keys;
 
 /* The words to lend for a book of so many entries; above 65,535 entries, the words for 65,535. */
 RATE_BOOK_MUST_USE
@@ -235,6 +259,25 @@ rate_book_batch rate_book_rate_batch(const uint64_t *book, size_t len, const uin
  * Refusals, in this order: 20, 21, 41, 43, 23. */
 RATE_BOOK_MUST_USE
 rate_book_listed rate_book_list(const uint64_t *book, size_t len, uint64_t day, uint8_t *out, size_t out_len);
+
+/* The keys of the codes that a cell names beside a country cell, of length 0 where there is none. It takes no book. Entries that
+ * rise take a step for each byte and each key; otherwise about one pass over the bytes, or over the keys so far, for each entry.
+ * Writes the first count words of keys: each key once, rising, as the codes stand in a dictionary (20, 211, 27). Later words are
+ * untouched.
+ * Refusals: the first entry that has a cause decides, within it in this order: 50, 51, 52. 50 is also for a stray byte in the
+ * country cell, for an empty entry beside a comma, and for a code inside a range that is not allowed; where the ends of a range
+ * differ in length or fall, they alone are asked to be allowed. 52 is for the distinct keys of the entry and all before it. */
+RATE_BOOK_MUST_USE
+rate_book_cell_keys rate_book_cell(const uint8_t *country, size_t country_len, const uint8_t *cell, size_t cell_len, uint64_t *keys,
+                                   size_t keys_len);
+
+/* The same for the first entry of a cell alone, up to its comma or the cell's end. The cell is read where rest is cell_len; else
+ * the next entry begins after the comma at rest.
+ * Writes the first count words of keys, at most 1,000. Later words are untouched.
+ * Refusals, in this order: 50, 51, 52. An empty entry is 50, also beside a country cell. */
+RATE_BOOK_MUST_USE
+rate_book_entry_keys rate_book_cell_entry(const uint8_t *country, size_t country_len, const uint8_t *cell, size_t cell_len,
+                                          uint64_t *keys, size_t keys_len);
 
 #ifdef __cplusplus
 }

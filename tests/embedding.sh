@@ -33,10 +33,10 @@ run_test() { # WHAT FILE COMPILER..
     checks=$((checks + $(sed -n '$s/.*: \([0-9]*\) checks, 0 failed$/\1/p' "$log")))
 }
 
-# Seven dropped answers are seven errors.
+# Nine dropped answers are nine errors.
 warns_of_dropped() { # COMPILER..
     ! "$@" -Werror -I include -c tests/embedding/dropped.c -o $out/dropped.o >"$log" 2>&1 || fail "a dropped answer compiles with $*"
-    [ "$(grep -c 'Werror.*unused-result' "$log")" -eq 7 ] || fail "not each dropped answer is an error with $*"
+    [ "$(grep -c 'Werror.*unused-result' "$log")" -eq 9 ] || fail "not each dropped answer is an error with $*"
 }
 
 tools/need cc g++ cargo rustc
@@ -55,6 +55,7 @@ echo "refusal 0, charge 9150000" | diff - "$log" >"$log.diff" || fail "README's 
 
 code_of docs/EMBEDDING.md month.h
 code_of docs/EMBEDDING.md load.h
+code_of docs/EMBEDDING.md cells.h
 code_of docs/EMBEDDING.md lent.hpp
 run_test "the code of docs/EMBEDDING.md" tests/embedding/embedding_text.c cc -std=c99
 run_test "the C++ of docs/EMBEDDING.md" tests/embedding/empty_slices.cpp g++ -std=c++11

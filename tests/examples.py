@@ -1,4 +1,5 @@
-"""The reference's own examples: document 01's P1 to P11 and its misreadings, told to the plain machine and to the book in words.
+"""The reference's own examples: document 01's P1 to P11 and its misreadings, told to the plain machine and to the book in words;
+calls, lists and cells.
 
     python3 tests/examples.py    an error if one fails
 """
@@ -10,6 +11,7 @@ sys.dont_write_bytecode = True
 from cases.writing import P1, batch, rate, send  # noqa: E402
 from reference import book, codes, rates  # noqa: E402
 from reference.calls import Batch, Row, Sent, call, rate_batch, rate_call  # noqa: E402
+from reference.cells import Cell, CellEntry, read_cell, read_entry  # noqa: E402
 from reference.fields import Refused, read_varint, write_varint  # noqa: E402
 from reference.lists import Listed, write_list  # noqa: E402
 from reference.machine import Machine  # noqa: E402
@@ -199,6 +201,20 @@ def list_examples(words):
     assert write_list([], 60_001, b"") == (Listed(20, 0), b"")
 
 
+def cell_examples():
+    """Formats C and D of source document 000, and the order of refusals."""
+    mobile = [codes.key(digits) for digits in ("21361", "2137", "2138")]
+    assert read_cell(b"213", b"61, 7-8", [7] * 4) == (Cell(0, 3), [*mobile, 7])
+    assert read_cell(b"", b"21361, 2137-2138", [7] * 3) == (Cell(0, 3), mobile)
+    assert read_cell(b"355", b" ", [7]) == (Cell(0, 1), [codes.key("355")])
+    assert read_entry(b"213", b"61, 7-8", [7, 7]) == (CellEntry(0, 1, 2), [mobile[0], 7])
+    assert read_entry(b"213", b" 7-8", [7, 7]) == (CellEntry(0, 2, 4), mobile[1:])
+    refused = [(52, b"7,1,", 1), (50, b"7,1,", 2), (50, b"7,,1", 1), (51, b"1000-2000", 0), (50, b"7-2", 9), (51, b"7-1", 9)]
+    for number, data, room in refused:
+        assert read_cell(b"", data, [7] * room) == (Cell(number, 0), [7] * room)
+    assert read_entry(b"355", b" ", [7]) == (CellEntry(50, 0, 0), [7])
+
+
 def main():
     together_and_apart()
     pending_rate()
@@ -209,7 +225,8 @@ def main():
     closings(other)
     batch_examples(example_book())
     list_examples(example_book())
-    print("examples: the reference gives document 01's numbers")
+    cell_examples()
+    print("examples: the reference gives the documents' numbers")
 
 
 if __name__ == "__main__":

@@ -18,7 +18,14 @@ OPERATIONS = [
     ("update-100", "Apply: update of 100 codes"),
     ("replacement", "Apply: replacement"),
     ("list", "Standing list"),
+    ("cell-rising", "Cell: rising ranges"),
+    ("cell-falling", "Cell: falling ranges"),
+    ("cell-singles", "Cell: falling codes"),
+    ("cell-repeats", "Cell: one code repeated"),
 ]
+# What a size counts, where it is not the entries of the book.
+SIZES = {"first": "lines of the notice", "cell-repeats": "entries of the cell"}
+SIZES |= dict.fromkeys(("cell-rising", "cell-falling", "cell-singles"), "keys of the cell")
 START, END = "<!-- measured -->", "<!-- end -->"
 
 LIBRARY, PLAIN, INK, FAINT = "#1f5fa8", "#c8641e", "#222222", "#d9d9d9"
@@ -144,7 +151,7 @@ def mark(x, y, colour, filled):
 
 
 def legend(left):
-    yield f'<text x="{left}" y="34" class="head">Cost of a call against the size of the book</text>'
+    yield f'<text x="{left}" y="34" class="head">Cost of a call against the size of the book or cell</text>'
     for at, name, colour, dash in ((left, "library", LIBRARY, ""), (left + 120, "plain C", PLAIN, DASHES)):
         yield f'<line x1="{at}" y1="57" x2="{at + 40}" y2="57" stroke="{colour}" stroke-width="2"{dash}/>'
         yield mark(at + 20, 57, colour, not dash)
@@ -171,8 +178,7 @@ def plot(results):
     for i, (name, title) in enumerate(OPERATIONS):
         row, column = divmod(i, columns)
         panel = Panel(left + column * (width + gap_x), top + row * (height + gap_y), width, height, results[name])
-        label = "lines of the notice" if name == "first" else "entries of the book"
-        out += panel.frame(title, label, "time a call" if column == 0 else "")
+        out += panel.frame(title, SIZES.get(name, "entries of the book"), "time a call" if column == 0 else "")
         out += [*panel.line(2, PLAIN, DASHES), *panel.line(1, LIBRARY, ""), *panel.ratios()]
     return "\n".join([*out, "</svg>"]) + "\n"
 

@@ -1,4 +1,5 @@
-/* A supplier's month as a switch keeps it: a fresh book, three notices, lookups, a batch of calls and the standing list.
+/* A supplier's month as a switch keeps it: a fresh book, three notices, a cell of codes, lookups, a batch of calls and the standing
+ * list.
  *
  *   cc -std=c99 -Wall -Wextra -Werror -I include examples/c/month.c target/staticlib/librate_book.a -o target/month
  */
@@ -17,6 +18,9 @@ static const struct {
     const char *code;
     const char *name;
 } destinations[] = {
+    {"21361", "Algeria mobile 61"},
+    {"2137", "Algeria mobile 7"},
+    {"2138", "Algeria mobile 8"},
     {"2348", "Nigeria mobile"},
     {"23480", "Nigeria mobile 80"},
     {"234806", "Nigeria mobile 806"},
@@ -134,6 +138,12 @@ static const char *cause(uint64_t refusal)
         return "no offer";
     case RATE_BOOK_OFFER_BLOCKED:
         return "blocked";
+    case RATE_BOOK_ENTRY_NOT_ALLOWED:
+        return "empty, a stray byte or no code that is allowed";
+    case RATE_BOOK_RANGE_NOT_ALLOWED:
+        return "ends that differ in length or fall, or over 1,000 codes";
+    case RATE_BOOK_KEYS_TOO_MANY:
+        return "more keys than words for them";
     default:
         return "see include/rate_book.h";
     }
@@ -154,6 +164,48 @@ static void apply(const char *label, const message *m)
     current = 1 - current;
     printf("accepted; %" PRIu64 " entries, last received day %" PRIu64 ", latest effective day %" PRIu64 "\n", left.entries,
            left.last_received, left.latest_effective);
+}
+
+/* Tells the first entry of a cell that is refused by itself. */
+static void print_refused_entry(const char *country, const char *cell)
+{
+    uint64_t keys[RATE_BOOK_MOST_CODES];
+    for (;;) {
+        rate_book_entry_keys read = rate_book_cell_entry((const uint8_t *)country, strlen(country), (const uint8_t *)cell,
+                                                         strlen(cell), keys, RATE_BOOK_MOST_CODES);
+        if (read.refusal != RATE_BOOK_NOT_REFUSED) {
+            printf("  '%.*s': %" PRIu64 ", %s\n", (int)strcspn(cell, ","), cell, read.refusal, cause(read.refusal));
+            return;
+        }
+        cell += read.rest;
+        if (*cell == '\0') {
+            return;
+        }
+        cell++; /* the comma */
+    }
+}
+
+/* Prices the codes of a cell, each by a line of an update. Their keys rise, as lines must. */
+static void price_cell(const char *country, const char *cell, uint64_t received, uint64_t mantissa)
+{
+    uint64_t keys[ROOM];
+    rate_book_cell_keys read = rate_book_cell((const uint8_t *)country, strlen(country), (const uint8_t *)cell, strlen(cell), keys,
+                                              ROOM);
+    printf("Cell '%s' beside %s: ", cell, country);
+    if (read.refusal != RATE_BOOK_NOT_REFUSED) {
+        printf("refused, %" PRIu64 "\n", read.refusal);
+        print_refused_entry(country, cell);
+        return;
+    }
+    message update = notice(RATE_BOOK_KIND_UPDATE, received, read.count);
+    for (uint64_t i = 0; i < read.count; i++) {
+        char code[16];
+        code_of(keys[i], code);
+        printf("%s%s", i == 0 ? "" : ", ", code);
+        put_rate(&update, code, mantissa, 1, 1);
+    }
+    printf("\n");
+    apply("  their update", &update);
 }
 
 static void look_up(const char *number, uint64_t day)
@@ -279,6 +331,10 @@ int main(void)
     message late = notice(RATE_BOOK_KIND_UPDATE, 109, 1);
     put_rate(&late, "2348", 700, 1, 1);
     apply("Update of day 109", &late);
+
+    printf("\n");
+    price_cell("213", "61, 7 - 8", 111, 2100);
+    price_cell("213", "61, 7-8", 111, 2100);
 
     printf("\nWhat 234806121212 costs:\n");
     look_up("234806121212", 99);

@@ -2,6 +2,7 @@
 
 from cases.books import TOO_SHORT, changed, small_book
 from cases.calls import CALLS, DAY, END
+from cases.cells import CELLS
 from cases.histories import HISTORIES
 from cases.large import LARGE
 from cases.lists import LISTS
@@ -28,6 +29,8 @@ def every_number(caller):
     numbers_of_calls(caller, words)
     for number, day, length in [(0, 40, 100), (41, 60_001, 100), (43, 9, 100), (23, 40, 9)]:
         assert caller.write_list(words, day, length)[0].refusal == number
+    for number, cell in {0: b"61", 50: b"-61", 51: b"8-7", 52: b"7-8"}.items():
+        assert caller.cell(b"213", cell, 1)[0].refusal == caller.cell_entry(b"213", cell, 1)[0].refusal == number
 
 
 def numbers_of_apply(caller, words):
@@ -82,4 +85,4 @@ def lengths(caller):
         caller.write_list(words, 40, length)
 
 
-DIRECTED = [every_number, lengths, *HISTORIES, notices, several_causes, *NUMBERS, *CALLS, *LISTS, *SOUNDNESS, *LARGE]
+DIRECTED = [every_number, lengths, *HISTORIES, notices, several_causes, *NUMBERS, *CALLS, *LISTS, *CELLS, *SOUNDNESS, *LARGE]

@@ -1,10 +1,11 @@
-"""Random cases: histories, books of no history, damaged books, notices and batches, random bytes and words.
+"""Random cases: histories, books of no history, damaged books, notices and batches, random bytes and words, cells of codes.
 
 A case is worked from its seed and its number alone, so that it can be repeated. What it does next hangs on the reference's answers
 only, so its steps can be had without the library.
 """
 
 from cases.generator import MOMENTS, PERIODS, Chance, numbers_near
+from cases.random_cells import play_cells
 from cases.writing import instead
 from harness.history import History
 from reference import book, lists, rates
@@ -171,7 +172,7 @@ class Player:
 
 
 def play(history, seed, number):
-    """A random case: few steps with few codes as a rule, many codes now and then, thousands of entries rarely."""
+    """A random case: few steps with few codes as a rule, many codes now and then, thousands of entries rarely; then some cells."""
     chance = Chance(f"{seed} {number}")
     if number % LONG_EVERY == LONG_EVERY - 1:
         play_long(history, chance)
@@ -184,6 +185,7 @@ def play(history, seed, number):
     player.ask()
     if chance.likely(10):
         player.sweep()
+    play_cells(history, chance)
 
 
 def play_long(history, chance):

@@ -300,6 +300,36 @@ static void batches(void)
           RATE_BOOK_OUT_OF_RANGE);
 }
 
+static rate_book_cell_keys cell(const char *text, uint64_t *keys, size_t room)
+{
+    return rate_book_cell((const uint8_t *)"", 0, (const uint8_t *)text, strlen(text), keys, room);
+}
+
+static void cells(void)
+{
+    uint64_t keys[RATE_BOOK_MOST_CODES + 1];
+    char text[64];
+    snprintf(text, sizeof text, "44000-%d", 44000 + RATE_BOOK_MOST_CODES - 1);
+    keys[RATE_BOOK_MOST_CODES] = 9;
+    CHECK(cell(text, keys, RATE_BOOK_MOST_CODES).count, RATE_BOOK_MOST_CODES);
+    CHECK(keys[RATE_BOOK_MOST_CODES], 9);
+    CHECK(cell(text, keys, RATE_BOOK_MOST_CODES - 1).refusal, RATE_BOOK_KEYS_TOO_MANY);
+    CHECK(rate_book_cell_entry((const uint8_t *)"", 0, (const uint8_t *)text, strlen(text), keys, RATE_BOOK_MOST_CODES).count,
+          RATE_BOOK_MOST_CODES);
+    snprintf(text, sizeof text, "44000-%d", 44000 + RATE_BOOK_MOST_CODES);
+    CHECK(cell(text, keys, RATE_BOOK_MOST_CODES + 1).refusal, RATE_BOOK_RANGE_NOT_ALLOWED);
+
+    memset(text, '9', RATE_BOOK_LONGEST_CODE + 1);
+    text[RATE_BOOK_LONGEST_CODE + 1] = 0;
+    CHECK(cell(text, keys, 1).refusal, RATE_BOOK_ENTRY_NOT_ALLOWED);
+    CHECK(cell(text + 1, keys, 1).count, 1);
+
+    /* The key of a code is that of a book's entry. */
+    price();
+    CHECK(cell("44", keys, 1).count, 1);
+    CHECK(keys[0], book[RATE_BOOK_HEADER_WORDS]);
+}
+
 int main(void)
 {
     days_and_moments();
@@ -310,5 +340,6 @@ int main(void)
     words();
     most_lines_and_entries();
     batches();
+    cells();
     return verdict("constants");
 }

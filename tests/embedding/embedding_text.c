@@ -1,8 +1,9 @@
-/* The code of docs/EMBEDDING.md, which tests/embedding.sh puts into month.h and load.h: notices that need longer books, one that no
- * book has room for, a batch, a list, and the list loaded. */
+/* The code of docs/EMBEDDING.md, which tests/embedding.sh puts into month.h, load.h and cells.h: notices that need longer books, one
+ * that no book has room for, a batch, a list, the list loaded, cells that need more words, and entries that are refused. */
 #include "fields.h"
 #include "month.h"
 #include "load.h"
+#include "cells.h"
 
 static void put_block(const char *code)
 {
@@ -164,10 +165,69 @@ static void lists(void)
     end(&again);
 }
 
+static text text_of(const char *bytes)
+{
+    text t = {(const uint8_t *)bytes, strlen(bytes)};
+    return t;
+}
+
+/* The key of a code, by a cell of its own. */
+static uint64_t key_of(const char *code)
+{
+    uint64_t key = 0;
+    CHECK(rate_book_cell((const uint8_t *)"", 0, (const uint8_t *)code, strlen(code), &key, 1).count, 1);
+    return key;
+}
+
+static void cells(void)
+{
+    key_list k = {NULL, 0, 0};
+    text none = text_of(""), algeria = text_of("213");
+    CHECK(take_cell(&k, algeria, text_of("61, 7-8")), 0);
+    CHECK(k.count, 3);
+    CHECK(k.len, 16);
+    CHECK(k.words[0], key_of("21361"));
+    CHECK(k.words[1], key_of("2137"));
+    CHECK(k.words[2], key_of("2138"));
+    CHECK(take_cell(&k, none, text_of("21361, 2137-2138")), 0);
+    CHECK(k.words[0], key_of("21361"));
+    CHECK(take_cell(&k, algeria, text_of("  ")), 0);
+    CHECK(k.count, 1);
+    CHECK(k.words[0], key_of("213"));
+
+    /* More words, by doubling. */
+    CHECK(take_cell(&k, none, text_of("44500-44999,44000-44499,44")), 0);
+    CHECK(k.count, 1001);
+    CHECK(k.len, 1024);
+    CHECK(k.words[0], key_of("44"));
+    CHECK(k.words[1], key_of("44000"));
+    CHECK(k.words[1000], key_of("44999"));
+
+    /* The entry to be mended. */
+    static const struct {
+        const char *cell;
+        uint64_t refusal;
+        size_t at;
+    } refused[] = {{"61, 7 - 8, 9", RATE_BOOK_ENTRY_NOT_ALLOWED, 3},
+                   {"61,8-7,", RATE_BOOK_RANGE_NOT_ALLOWED, 3},
+                   {"61,", RATE_BOOK_ENTRY_NOT_ALLOWED, 3},
+                   {"x", RATE_BOOK_ENTRY_NOT_ALLOWED, 0},
+                   {"0-9,00000-09999", RATE_BOOK_RANGE_NOT_ALLOWED, 4}};
+    for (size_t i = 0; i < sizeof refused / sizeof refused[0]; i++) {
+        CHECK(take_cell(&k, algeria, text_of(refused[i].cell)), refused[i].refusal);
+        CHECK(k.count, 0);
+        CHECK(refused_entry(algeria, text_of(refused[i].cell)), refused[i].at);
+    }
+    CHECK(refused_entry(algeria, text_of("61, 7-8")), 7);
+    CHECK(refused_entry(text_of("213 "), text_of("61")), 0);
+    free(k.words);
+}
+
 int main(void)
 {
     longer_books();
     the_most();
     lists();
+    cells();
     return verdict("the code of docs/EMBEDDING.md");
 }

@@ -33,5 +33,14 @@ int main()
     CHECK(rate_book_rate_batch(lent(next), next.size(), lent(no_bytes), no_bytes.size(), lent(none), none.size()).refusal,
           RATE_BOOK_BYTES_END);
     CHECK(rate_book_list(lent(next), next.size(), 10, lent(no_room), no_room.size()).refusal, RATE_BOOK_BUFFER_TOO_SHORT);
+    CHECK(rate_book_cell(lent(no_bytes), no_bytes.size(), lent(no_bytes), no_bytes.size(), lent(none), none.size()).refusal,
+          RATE_BOOK_ENTRY_NOT_ALLOWED);
+    CHECK(rate_book_cell_entry(lent(no_bytes), no_bytes.size(), lent(no_bytes), no_bytes.size(), lent(none), none.size()).refusal,
+          RATE_BOOK_ENTRY_NOT_ALLOWED);
+    const std::vector<std::uint8_t> one(1, '1');
+    CHECK(rate_book_cell(lent(one), one.size(), lent(no_bytes), no_bytes.size(), lent(book), book.size()).count, 1);
+    CHECK(rate_book_cell(lent(no_bytes), no_bytes.size(), lent(one), one.size(), lent(none), none.size()).refusal,
+          RATE_BOOK_KEYS_TOO_MANY);
+    CHECK(rate_book_cell_entry(lent(no_bytes), no_bytes.size(), lent(one), one.size(), lent(book), book.size()).rest, 1);
     return verdict("empty slices");
 }

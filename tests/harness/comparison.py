@@ -9,7 +9,7 @@ from typing import NamedTuple
 from harness import coverage
 from harness.coverage import STATES
 from harness.lent import read_only, writable
-from reference import book, calls, lists
+from reference import book, calls, cells, lists
 from reference.fields import Refused
 from reference.rates import BLOCKED, CLOSED
 
@@ -124,3 +124,36 @@ class Caller:
         data = left[: answer.length]
         self.covered.update(coverage.of_list(day, answer, length, data))
         return answer, data
+
+    def by_cell(self, name, read, outcome, country, data, length):
+        """A call that reads a cell: the answer, and the keys."""
+        before = old_words(length)
+        answer, left = read(country, data, before)
+        self.compare(name, [read_only(country), read_only(data), writable(before, left)], answer)
+        self.covered.update(coverage.of_cell(name, country, data, outcome(country, data, length), length))
+        return answer, left[: answer.count]
+
+    def cell(self, country, data, length):
+        return self.by_cell("cell", cells.read_cell, cells.cell_outcome, country, data, length)
+
+    def cell_entry(self, country, data, length):
+        return self.by_cell("cell_entry", cells.read_entry, cells.entry_outcome, country, data, length)
+
+    def by_entries(self, country, data, length):
+        """Reads a cell entry by entry, from comma to comma, each with so many words. The keys of the entries together are the whole
+        cell's; where one is refused by 50 or 51, so is the cell."""
+        found, at = set(), 0
+        while True:
+            answer, keys = self.cell_entry(country, data[at:], length)
+            found.update(keys)
+            at += answer.rest
+            if answer.refusal != 0 or at == len(data):
+                break
+            assert data[at : at + 1] == b","
+            at += 1
+        whole, named = self.cell(country, data, len(found))
+        if cells.is_own(country, data):
+            assert answer.refusal == 50
+        elif answer.refusal != 52:
+            assert whole.refusal == answer.refusal and (answer.refusal != 0 or set(named) == found), "the entries name other keys"
+            self.covered["cell", "by entries", "refused" if answer.refusal else "more" if b"," in data else "one"] += 1

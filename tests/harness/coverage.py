@@ -3,13 +3,15 @@
 A met thing is a tuple that starts with its call. (call, number) counts refusals, and makes the table; longer ones say more.
 """
 
-from reference import book, calls, notice
+import re
+
+from reference import book, calls, cells, codes, notice
 from reference.notice import FULL, KINDS, PARTIAL, REPLACEMENT, UPDATE
 from reference.rates import BLOCKED, CLOSED, Open
 
-ALL_NUMBERS = [0, *range(1, 11), 20, 21, 22, 23, 30, *range(40, 45)]
+ALL_NUMBERS = [0, *range(1, 11), 20, 21, 22, 23, 30, *range(40, 45), 50, 51, 52]
 
-# The refusal numbers of each call, after "Order" in document 01; of a batch, the rows apart.
+# The refusal numbers of each call, after "Order" in document 01 and request 1 of document 02; of a batch, the rows apart.
 POSSIBLE = {
     "fresh": [0, 20, 22],
     "apply": [0, *range(1, 11), 20, 21, 30],
@@ -18,6 +20,8 @@ POSSIBLE = {
     "rate_batch": [0, 1, 2, 4, 9, 20, 21, 23],
     "batch rows": [0, *range(40, 45)],
     "list": [0, 20, 21, 23, 41, 43],
+    "cell": [0, 50, 51, 52],
+    "cell_entry": [0, 50, 51, 52],
 }
 
 FIRST, LATER = "first", "later"
@@ -25,6 +29,9 @@ EXACT, MORE = "exact room", "more room"
 STATES = [CLOSED, BLOCKED, "open"]
 LIST_DAYS = [0, 127, 128, 60_000]
 LIST_LINES = [1, 127, 128]
+NOT_ALLOWED = ["country cell", "empty", "range end", "stray byte", "16 digits", "code", "end", "inside"]
+NO_RANGE = ["unequal", "falling", "too many"]
+NAMING = ["code", "range"]
 
 
 # What a call met, beside its refusal number.
@@ -74,6 +81,64 @@ def of_list(day, answer, length, data):
         yield "list", "day", day if day in LIST_DAYS else "other"
 
 
+def entry_kind(entry):
+    """How an entry is typed."""
+    typed = entry.strip(b" ")
+    kinds = [("empty", b""), ("code", b"[0-9]+"), ("range", b"[0-9]+-[0-9]+"), ("range end", b"[0-9]*-[0-9]*")]
+    return next((kind for kind, form in kinds if re.fullmatch(form, typed)), "stray byte")
+
+
+def why_refused(country, cause):
+    """More about an entry that is refused by 50 or 51."""
+    kind = entry_kind(cause.field)
+    if not re.fullmatch(b"[0-9]*", country):
+        return "country cell"
+    if kind not in NAMING:
+        return kind
+    ends = [(country + typed).decode() for typed in cause.field.strip(b" ").split(b"-")]
+    if cause.number == 50:
+        wide = any(len(end) > codes.MOST_DIGITS for end in ends)
+        return "16 digits" if wide else kind if len(ends) == 1 else "inside" if all(map(codes.is_code, ends)) else "end"
+    return "unequal" if len(ends[0]) != len(ends[1]) else "falling" if ends[0] > ends[1] else "too many"
+
+
+def of_cell(call, country, data, outcome, length):
+    found, cause = outcome
+    own = call == "cell" and cells.is_own(country, data)
+    if own:
+        yield call, "own code", cause.number if cause else 0
+    elif cause is not None:
+        why = entry_kind(cause.field) if cause.number == 52 else why_refused(country, cause)
+        yield call, cause.number, why, LATER if cause.line > 1 else FIRST
+    if found is not None:
+        yield call, EXACT if len(found) == length else MORE
+        yield call, "country" if country else "no country"
+        yield from of_entries(call, country, cells.entries_of(data)[: 1 if call == "cell_entry" else None])
+    if found is not None and call == "cell_entry":
+        yield call, "rest", "comma" if b"," in data else "end"
+
+
+def of_entries(call, country, entries):
+    """What entries that are not refused are like, and how their keys stand to each other."""
+    seen = set()
+    for entry in entries:
+        if entry_kind(entry) not in NAMING:
+            continue
+        yield call, "entry", entry_kind(entry), "blanks" if b" " in entry else "no blanks"
+        if country and entry.strip(b" ").startswith(b"0"):
+            yield call, "starts with 0"
+        keys = [codes.key(digits) for digits in cells.entry_codes(country, entry)]
+        if len(keys) in (1, cells.MOST_CODES) and b"-" in entry:
+            yield call, "range of", len(keys)
+        if seen:
+            repeats = len(seen.intersection(keys))
+            yield call, "repeats", "none" if repeats == 0 else "all" if repeats == len(keys) else "some"
+            yield call, "rising" if keys[0] > max(seen) else "falling" if keys[-1] < min(seen) else "between"
+        if any(keys[0] < each < keys[-1] for each in seen.difference(keys)):
+            yield call, "interleaved"
+        seen.update(keys)
+
+
 # What must be met.
 
 
@@ -114,6 +179,18 @@ def demanded():
     yield from (("list", "lines", lines) for lines in (*LIST_LINES, "under 128", "over 128"))
     yield from (("list", "day", day) for day in (*LIST_DAYS, "other"))
     yield from (("history", what) for what in ("apply", "lookup", "list"))
+    for call, places in (("cell", (FIRST, LATER)), ("cell_entry", (FIRST,))):
+        yield from ((call, 50, why, place) for why in NOT_ALLOWED for place in places if (why, place) != ("country cell", LATER))
+        yield from ((call, 51, why, place) for why in NO_RANGE for place in places)
+        yield from ((call, 52, kind, place) for kind in NAMING for place in places)
+        yield from ((call, what) for what in (EXACT, MORE, "country", "no country", "starts with 0"))
+        yield from ((call, "entry", kind, blanks) for kind in NAMING for blanks in ("blanks", "no blanks"))
+        yield from ((call, "range of", count) for count in (1, cells.MOST_CODES))
+    yield from (("cell", "own code", number) for number in (0, 50, 52))
+    yield from (("cell", order) for order in ("rising", "falling", "between", "interleaved"))
+    yield from (("cell", "repeats", which) for which in ("none", "some", "all"))
+    yield from (("cell", "by entries", which) for which in ("one", "more", "refused"))
+    yield from (("cell_entry", "rest", where) for where in ("comma", "end"))
 
 
 def faults(covered):

@@ -4,7 +4,7 @@
 #include <stdint.h>
 
 enum { NONE, ANSWER, FIRST, LAST, IF_REFUSED, WRITE_BEFORE, WRITE_AFTER, READ_BEFORE, READ_AFTER, WRITE_READ, ENDLESS };
-enum { WORDS, FRESH, APPLY, LOOKUP, RATE_CALL, RATE_BATCH, LIST };
+enum { WORDS, FRESH, APPLY, LOOKUP, RATE_CALL, RATE_BATCH, LIST, CELL, CELL_ENTRY };
 
 struct slice {
     const void *start;
@@ -12,6 +12,7 @@ struct slice {
 };
 
 struct two { uint64_t n[2]; };
+struct three { uint64_t n[3]; };
 struct four { uint64_t n[4]; };
 struct six { uint64_t n[6]; };
 
@@ -22,6 +23,8 @@ struct six rate_book_lookup(const uint64_t *, size_t, const uint8_t *, size_t, u
 struct four rate_book_rate_call(const uint64_t *, size_t, const uint8_t *, size_t, uint64_t, uint64_t);
 struct four rate_book_rate_batch(const uint64_t *, size_t, const uint8_t *, size_t, uint64_t *, size_t);
 struct two rate_book_list(const uint64_t *, size_t, uint64_t, uint8_t *, size_t);
+struct two rate_book_cell(const uint8_t *, size_t, const uint8_t *, size_t, uint64_t *, size_t);
+struct three rate_book_cell_entry(const uint8_t *, size_t, const uint8_t *, size_t, uint64_t *, size_t);
 
 static uint64_t chosen_kind, chosen_call, chosen_place;
 static volatile uint8_t seen;
@@ -106,5 +109,19 @@ struct four faulty_rate_book_rate_batch(const uint64_t *book, size_t words, cons
 struct two faulty_rate_book_list(const uint64_t *book, size_t words, uint64_t day, uint8_t *out, size_t room) {
     struct two answer = rate_book_list(book, words, day, out, room);
     fault(LIST, answer.n, (struct slice[]){{book, 8 * words}, {out, room}});
+    return answer;
+}
+
+struct two faulty_rate_book_cell(const uint8_t *country, size_t digits, const uint8_t *cell, size_t bytes, uint64_t *keys,
+                                 size_t room) {
+    struct two answer = rate_book_cell(country, digits, cell, bytes, keys, room);
+    fault(CELL, answer.n, (struct slice[]){{country, digits}, {cell, bytes}, {keys, 8 * room}});
+    return answer;
+}
+
+struct three faulty_rate_book_cell_entry(const uint8_t *country, size_t digits, const uint8_t *cell, size_t bytes, uint64_t *keys,
+                                         size_t room) {
+    struct three answer = rate_book_cell_entry(country, digits, cell, bytes, keys, room);
+    fault(CELL_ENTRY, answer.n, (struct slice[]){{country, digits}, {cell, bytes}, {keys, 8 * room}});
     return answer;
 }

@@ -108,6 +108,18 @@ class History:
             self.caller.covered["history", "list"] += 1
         return answer, data
 
+    @step
+    def cell(self, country, data, length):
+        return self.caller.cell(country, data, length)
+
+    @step
+    def cell_entry(self, country, data, length):
+        return self.caller.cell_entry(country, data, length)
+
+    @step
+    def by_entries(self, country, data, length):
+        self.caller.by_entries(country, data, length)
+
 
 def repeat(caller, steps):
     """The steps of a history, done anew."""

@@ -126,6 +126,8 @@ ANSWERS = {
     "rate_call": numbers("refusal", "key", "seconds", "charge"),
     "rate_batch": numbers("refusal", "rated", "refused", "total"),
     "list": numbers("refusal", "length"),
+    "cell": numbers("refusal", "count"),
+    "cell_entry": numbers("refusal", "count", "rest"),
 }
 
 

@@ -1,5 +1,5 @@
-"""Misreadings of document 01, each put into the reference in place of a function, a method or a constant. The first five are the
-document's own ("Misreadings of a card"). Nothing to run here: tests/evidence.py --self-test does.
+"""Misreadings of documents 01 and 02, each put into the reference in place of a function, a method or a constant. The first five are
+document 01's own ("Misreadings of a card"). Nothing to run here: tests/evidence.py --self-test does.
 
 A misreading is where it stands, its name there, and what stands there instead, made of what stood there. The process that puts it in
 ends with it.
@@ -8,7 +8,7 @@ ends with it.
 import math
 from fractions import Fraction
 
-from reference import book, codes, effective_days, lists, matching, rates
+from reference import book, cells, codes, effective_days, lists, matching, rates
 from reference.effective_days import Change, Effect
 from reference.notice import PARTIAL
 from reference.rates import BLOCKED, CLOSED, DEAREST
@@ -67,6 +67,34 @@ def charge_is_rounded_down(plain):
     return charge
 
 
+def ends_alone_are_asked(plain):
+    def between(first, last):
+        cells.refuse(51, len(first) != len(last) or int(first) > int(last) or int(last) - int(first) >= cells.MOST_CODES)
+        return [str(value) for value in range(int(first), int(last) + 1)]
+
+    return between
+
+
+def falling_ends_are_turned(plain):
+    return lambda first, last: plain(*sorted((first, last), key=lambda end: (len(end), end)))
+
+
+def the_comma_is_read(plain):
+    def read_entry(country, data, keys):
+        answer, left = plain(country, data, keys)
+        return answer._replace(rest=answer.rest + (answer.refusal == 0 and b"," in data)), left
+
+    return read_entry
+
+
+def all_entries_are_read_first(plain):
+    def outcome(entries, names, room):
+        whole = plain(entries, names, 10**6)
+        return whole if whole[0] is None else plain(entries, names, room)
+
+    return outcome
+
+
 MISREADINGS = {
     "the received day is day one": (
         effective_days, "floor_day", lambda plain: lambda received, period: plain(received, max(period, 1) - 1)
@@ -109,6 +137,18 @@ MISREADINGS = {
         matching, "longest_match",
         lambda plain: lambda status, digits: found if (found := plain(status, digits)).offer != BLOCKED else found._replace(key=0)
     ),
+    "a range has fewer than 1,000 codes": (cells, "MOST_CODES", lambda plain: plain - 1),
+    "the ends of a range alone are asked to be allowed": (cells, "between", ends_alone_are_asked),
+    "falling ends of a range are turned": (cells, "between", falling_ends_are_turned),
+    "keys too many are told after all entries are read": (cells, "outcome", all_entries_are_read_first),
+    "keys are in the order of their codes' values": (
+        cells, "in_order", lambda plain: lambda keys: sorted(keys, key=lambda key: int(codes.digits_of_key(key)))
+    ),
+    "blanks are allowed around a code": (cells, "code", lambda plain: lambda country, typed: plain(country, typed.strip(b" "))),
+    "a cell of blanks names no code": (
+        cells, "is_own", lambda plain: lambda country, data: data == b"" and plain(country, data)
+    ),
+    "the comma of an entry is read with it": (cells, "read_entry", the_comma_is_read),
 }
 
 

@@ -15,10 +15,11 @@ from harness.runs import in_child, run_cases
 
 KINDS = ["none", "answer", "first", "last", "if refused", "write before", "write after", "read before", "read after"]
 KINDS += ["write read-only", "endless"]
-CALLS = ["words", "fresh", "apply", "lookup", "rate_call", "rate_batch", "list"]
+CALLS = ["words", "fresh", "apply", "lookup", "rate_call", "rate_batch", "list", "cell", "cell_entry"]
 ANSWER_NUMBERS = {call: answer_numbers(call) for call in CALLS}
 READ_SLICES = {"apply": [0, 1], "lookup": [0, 1], "rate_call": [0, 1], "rate_batch": [0, 1], "list": [0]}
-WRITTEN_SLICES = {"fresh": 0, "apply": 2, "rate_batch": 2, "list": 1}
+READ_SLICES |= {"cell": [0, 1], "cell_entry": [0, 1]}
+WRITTEN_SLICES = {"fresh": 0, "apply": 2, "rate_batch": 2, "list": 1, "cell": 2, "cell_entry": 2}
 STRAY = "SIGSEGV"
 OUT_OF_TIME = "SIGPROF"
 
@@ -93,6 +94,7 @@ def missed_demands():
     for each in whole:
         yield None if len(list(coverage.faults(whole - {each}))) == 1 else f"demands: not found: {each}"
     strange = {("apply", 4, None, "kind", "first"), ("rate_batch", 4, "count", "first"), ("list", 21, "why")}
+    strange |= {("cell_entry", 50, "code", "later")}
     yield None if len(list(coverage.faults(whole | strange))) == len(strange) else "demands: what cannot be met is not told"
 
 

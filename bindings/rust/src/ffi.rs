@@ -49,6 +49,21 @@ pub struct Listed {
     pub length: u64,
 }
 
+/// `rate_book_cell_keys`
+#[repr(C)]
+pub struct CellKeys {
+    pub refusal: u64,
+    pub count: u64,
+}
+
+/// `rate_book_entry_keys`
+#[repr(C)]
+pub struct EntryKeys {
+    pub refusal: u64,
+    pub count: u64,
+    pub rest: u64,
+}
+
 extern "C" {
     fn rate_book_words(entries: u64) -> u64;
     fn rate_book_fresh(book: *mut u64, len: usize, notice_period: u64) -> u64;
@@ -90,6 +105,22 @@ extern "C" {
         out: *mut u8,
         out_len: usize,
     ) -> Listed;
+    fn rate_book_cell(
+        country: *const u8,
+        country_len: usize,
+        cell: *const u8,
+        cell_len: usize,
+        keys: *mut u64,
+        keys_len: usize,
+    ) -> CellKeys;
+    fn rate_book_cell_entry(
+        country: *const u8,
+        country_len: usize,
+        cell: *const u8,
+        cell_len: usize,
+        keys: *mut u64,
+        keys_len: usize,
+    ) -> EntryKeys;
 }
 
 pub fn words(entries: u64) -> u64 {
@@ -163,4 +194,33 @@ pub fn list(book: &[u64], day: u64, out: &mut [u8]) -> Listed {
     // SAFETY: each pointer and length are of one slice, borrowed until the call returns. Only `out` is written; it is
     // borrowed for writing, so it does not overlap `book`.
     unsafe { rate_book_list(book.as_ptr(), book.len(), day, out.as_mut_ptr(), out.len()) }
+}
+
+pub fn cell(country: &[u8], cell: &[u8], keys: &mut [u64]) -> CellKeys {
+    // SAFETY: each pointer and length are of one slice, borrowed until the call returns. Only `keys` is written; it is
+    // borrowed for writing, so it overlaps neither `country` nor `cell`.
+    unsafe {
+        rate_book_cell(
+            country.as_ptr(),
+            country.len(),
+            cell.as_ptr(),
+            cell.len(),
+            keys.as_mut_ptr(),
+            keys.len(),
+        )
+    }
+}
+
+pub fn cell_entry(country: &[u8], cell: &[u8], keys: &mut [u64]) -> EntryKeys {
+    // SAFETY: as for `cell`.
+    unsafe {
+        rate_book_cell_entry(
+            country.as_ptr(),
+            country.len(),
+            cell.as_ptr(),
+            cell.len(),
+            keys.as_mut_ptr(),
+            keys.len(),
+        )
+    }
 }

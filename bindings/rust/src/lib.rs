@@ -2,7 +2,7 @@
 //!
 //! A thin, safe wrapper over the proved library. You lend all memory as slices; the library has no heap, files, threads or clock
 //! and keeps nothing between calls. Bad input is answered by a [`Refusal`], and a refused call leaves all lent memory as it was.
-//! `include/rate_book.h` gives the layout of books, notices and batches; [`Kind`] and [`LineStatus`] name a notice's numbers.
+//! `include/rate_book.h` gives the layout of books, notices, batches and cells; [`Kind`] and [`LineStatus`] name a notice's numbers.
 //!
 //! ```
 //! use rate_book::{Day, Moment, Offer};
@@ -60,6 +60,8 @@ pub const MOST_ENTRIES: usize = 65_535;
 pub const MOST_LINES: usize = 65_535;
 /// The most calls of a batch.
 pub const MOST_CALLS: usize = 65_535;
+/// The most codes of a range in a cell, and so the most keys of one entry.
+pub const MOST_CODES: usize = 1_000;
 /// The words of a call in a batch's rows.
 pub const ROW_WORDS: usize = 4;
 /// The most bytes of a standing list before its lines.
@@ -243,6 +245,27 @@ pub struct Batch {
     pub refused: u64,
     /// The sum of the charges, in hundred-millionths of the contract currency.
     pub total: u64,
+}
+
+/// The first entry of a cell, read.
+///
+/// The rest is part of the cell, and so does not outlive it:
+///
+/// ```compile_fail
+/// let mut keys = [0; 1];
+/// let read = {
+///     let cell = b"44, 46".to_vec();
+///     rate_book::cell_entry(b"", &cell, &mut keys)
+/// };
+/// assert!(read.is_ok());
+/// ```
+#[must_use]
+#[derive(Clone, Copy, Debug, PartialEq, Eq, Hash)]
+pub struct CellEntry<'a> {
+    /// The keys written.
+    pub count: usize,
+    /// The part of the cell still to be read: from the entry's comma on, or nothing at the cell's end.
+    pub rest: &'a [u8],
 }
 
 fn refused_by(number: u64, key: u64) -> Result<(), Refusal> {
@@ -509,4 +532,59 @@ pub fn list(book: &[u64], day: Day, out: &mut [u8]) -> Result<usize, Refusal> {
     let listed = ffi::list(book, day.0, out);
     refused_by(listed.refusal, 0)?;
     Ok(listed.length as usize)
+}
+
+/// Writes the keys of the codes that a cell names, as a supplier types it, rising and each once, and gives their number. Later words
+/// are untouched. The digits of the country cell go before every code; a cell that is empty or all blanks then means the country's
+/// own code. An empty country cell is the same as none. An entry has at most [`MOST_CODES`] keys.
+///
+/// The first entry that has a cause decides, within it in this order: [`Refusal::EntryNotAllowed`], [`Refusal::RangeNotAllowed`],
+/// [`Refusal::KeysTooMany`].
+///
+/// ```
+/// use rate_book::{Key, Refusal};
+///
+/// let mut keys = [0; 3];
+/// let count = rate_book::cell(b"213", b"61, 7-8", &mut keys)?;
+/// let codes: Vec<_> = keys[..count].iter().map(|&key| Key(key).to_string()).collect();
+/// assert_eq!(codes, ["21361", "2137", "2138"]);
+///
+/// assert_eq!(rate_book::cell(b"", b"21361, 2137-2138", &mut keys), Ok(3));
+/// assert_eq!(rate_book::cell(b"355", b"", &mut keys), Ok(1));
+/// assert_eq!(rate_book::cell(b"213", b"7-9, 61", &mut keys), Err(Refusal::KeysTooMany));
+/// # Ok::<(), Refusal>(())
+/// ```
+pub fn cell(country: &[u8], cell: &[u8], keys: &mut [u64]) -> Result<usize, Refusal> {
+    let read = ffi::cell(country, cell, keys);
+    refused_by(read.refusal, 0)?;
+    Ok(read.count as usize)
+}
+
+/// The same for the first entry of a cell alone, up to its comma or the cell's end, with the part of the cell still to be read. An
+/// empty entry is refused, also beside a country cell.
+///
+/// Refused, in this order, by [`Refusal::EntryNotAllowed`], [`Refusal::RangeNotAllowed`] and [`Refusal::KeysTooMany`].
+///
+/// ```
+/// use rate_book::{Key, Refusal, MOST_CODES};
+///
+/// let mut keys = [0; MOST_CODES];
+/// let first = rate_book::cell_entry(b"213", b"61, 7-8", &mut keys)?;
+/// assert_eq!((first.count, first.rest), (1, &b", 7-8"[..]));
+/// let second = rate_book::cell_entry(b"213", &first.rest[1..], &mut keys)?;
+/// assert_eq!((second.count, second.rest), (2, &b""[..]));
+/// assert_eq!(Key(keys[1]).to_string(), "2138");
+/// # Ok::<(), Refusal>(())
+/// ```
+pub fn cell_entry<'a>(
+    country: &[u8],
+    cell: &'a [u8],
+    keys: &mut [u64],
+) -> Result<CellEntry<'a>, Refusal> {
+    let read = ffi::cell_entry(country, cell, keys);
+    refused_by(read.refusal, 0)?;
+    Ok(CellEntry {
+        count: read.count as usize,
+        rest: &cell[read.rest as usize..],
+    })
 }

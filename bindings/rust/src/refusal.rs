@@ -51,6 +51,12 @@ pub enum Refusal {
     NoOffer,
     /// 44: the offer is blocked, by the code of this key.
     OfferBlocked(Key),
+    /// 50: in a cell, an empty entry or range end, a stray byte (in the country cell too) or a code not allowed.
+    EntryNotAllowed,
+    /// 51: in a cell, a range with ends of unequal length, falling ends or more than 1,000 codes.
+    RangeNotAllowed,
+    /// 52: more distinct keys in a cell than the lent slice holds.
+    KeysTooMany,
     /// Any other number. No call of the library gives one; it can only come from rows that no batch filled, or from an archive of
     /// another version.
     Unlisted(u64),
@@ -81,6 +87,9 @@ impl Refusal {
             Refusal::DurationTooLong => 42,
             Refusal::NoOffer => 43,
             Refusal::OfferBlocked(_) => 44,
+            Refusal::EntryNotAllowed => 50,
+            Refusal::RangeNotAllowed => 51,
+            Refusal::KeysTooMany => 52,
             Refusal::Unlisted(number) => number,
         }
     }
@@ -113,6 +122,13 @@ impl Refusal {
             Refusal::DurationTooLong => "the duration is beyond its end",
             Refusal::NoOffer => "no offer",
             Refusal::OfferBlocked(_) => "the offer is blocked",
+            Refusal::EntryNotAllowed => {
+                "an entry or a range end is empty, has a stray byte or is no code that is allowed"
+            }
+            Refusal::RangeNotAllowed => {
+                "a range's ends differ in length or fall, or it has more than 1,000 codes"
+            }
+            Refusal::KeysTooMany => "more keys than the lent slice holds",
             Refusal::Unlisted(_) => "a number that this crate does not list",
         }
     }
@@ -140,6 +156,9 @@ impl Refusal {
             42 => Refusal::DurationTooLong,
             43 => Refusal::NoOffer,
             44 => Refusal::OfferBlocked(Key(key)),
+            50 => Refusal::EntryNotAllowed,
+            51 => Refusal::RangeNotAllowed,
+            52 => Refusal::KeysTooMany,
             other => Refusal::Unlisted(other),
         }
     }
@@ -179,7 +198,7 @@ mod tests {
             }
         }
         assert_eq!(listed.remove(0), ("NotRefused".to_string(), 0));
-        assert_eq!(listed.len(), 20);
+        assert_eq!(listed.len(), 23);
         for (name, number) in &listed {
             let refusal = Refusal::of(*number, 5);
             assert_eq!(refusal.number(), *number);

@@ -1,9 +1,9 @@
 //! Each call of the library through the wrapper: the specification's worked examples, each refusal, and what is left in lent
 //! memory.
 use rate_book::{
-    apply, fresh, list, lookup, rate_batch, rate_call, read_rows, words, Answer, Applied, Batch,
-    Call, Day, Key, Kind, LineStatus, Moment, Offer, Refusal, LONGEST_PERIOD, ROW_WORDS,
-    WORD_LAST_RECEIVED, WORD_LATEST_EFFECTIVE, WORD_PERIOD,
+    apply, cell, cell_entry, fresh, list, lookup, rate_batch, rate_call, read_rows, words, Answer,
+    Applied, Batch, Call, CellEntry, Day, Key, Kind, LineStatus, Moment, Offer, Refusal,
+    LONGEST_PERIOD, MOST_CODES, ROW_WORDS, WORD_LAST_RECEIVED, WORD_LATEST_EFFECTIVE, WORD_PERIOD,
 };
 
 const CENT: u64 = 1_000_000;
@@ -714,6 +714,137 @@ fn refused_lists_change_nothing() {
             Err(Refusal::BookNotSound)
         );
     }
+}
+
+/// The codes of a cell, read with so many words of room.
+fn codes(country: &str, text: &str, room: usize) -> Result<Vec<String>, Refusal> {
+    let mut keys = vec![9; room];
+    let read = cell(country.as_bytes(), text.as_bytes(), &mut keys);
+    let written = read.unwrap_or(0);
+    assert_eq!(keys[written..], vec![9; room - written]);
+    read.map(|count| {
+        let shown = keys[..count].iter().map(|&key| Key(key).to_string());
+        shown.collect()
+    })
+}
+
+#[test]
+fn cells_name_codes() {
+    let cases: [(&str, &str, &[&str]); 9] = [
+        (
+            "355",
+            "38, 68, 699, 4",
+            &["35538", "3554", "35568", "355699"],
+        ),
+        ("213", "61, 7-8", &["21361", "2137", "2138"]),
+        ("", "21361, 2137-2138", &["21361", "2137", "2138"]),
+        ("", "27,211,20,27", &["20", "211", "27"]),
+        ("", "43-46,44-48", &["43", "44", "45", "46", "47", "48"]),
+        ("213", " 08-09 ", &["21308", "21309"]),
+        ("355", "", &["355"]),
+        ("355", "  ", &["355"]),
+        ("2", "13", &["213"]),
+    ];
+    for (country, text, expected) in cases {
+        let count = expected.len();
+        for room in [count, count + 3] {
+            assert_eq!(codes(country, text, room).unwrap(), expected, "{text}");
+        }
+        assert_eq!(codes(country, text, count - 1), Err(Refusal::KeysTooMany));
+    }
+    assert_eq!(codes("1", "000-999", MOST_CODES).unwrap()[999], "1999");
+}
+
+#[test]
+fn refused_cells_change_nothing() {
+    let refused = |country, text, room| codes(country, text, room).unwrap_err();
+    for (country, text) in [
+        ("", ""),
+        ("", " "),
+        ("355", ","),
+        ("213", "61, ,7"),
+        ("", "44-"),
+        ("", "44 -46"),
+        ("", "4 4"),
+        ("", "44-45-46"),
+        ("", "44;46"),
+        ("", "2"),
+        ("", "044"),
+        ("", "1-7"),
+        ("", "7-2"),
+        ("", "0000000000000001"),
+        ("213 ", "61"),
+        ("2", ""),
+    ] {
+        assert_eq!(
+            refused(country, text, 9),
+            Refusal::EntryNotAllowed,
+            "{text}"
+        );
+    }
+    for (country, text) in [
+        ("", "27-20"),
+        ("", "98-100"),
+        ("213", "7-08"),
+        ("1", "0000-1000"),
+        ("", "100000000000000-999999999999999"),
+    ] {
+        assert_eq!(
+            refused(country, text, 0),
+            Refusal::RangeNotAllowed,
+            "{text}"
+        );
+    }
+    // The first refused entry decides.
+    assert_eq!(refused("", "7,1,", 1), Refusal::KeysTooMany);
+    assert_eq!(refused("", "7,1,", 2), Refusal::EntryNotAllowed);
+    assert_eq!(refused("", "7,,1", 1), Refusal::EntryNotAllowed);
+    assert_eq!(refused("", "1000-2000,,", 0), Refusal::RangeNotAllowed);
+}
+
+#[test]
+fn a_cell_is_read_entry_by_entry() {
+    let text = b"61, 7-8 ,699, 07-12";
+    let mut whole = [0; 10];
+    let count = cell(b"213", text, &mut whole).unwrap();
+    assert_eq!(count, 10);
+    let mut all = Vec::new();
+    let mut rest: &[u8] = text;
+    loop {
+        let mut keys = [9; 7];
+        let read = cell_entry(b"213", rest, &mut keys).unwrap();
+        assert_eq!(keys[read.count..], [9; 7][read.count..]);
+        all.extend_from_slice(&keys[..read.count]);
+        match read.rest {
+            [] => break,
+            [comma, later @ ..] => {
+                assert_eq!(*comma, b',');
+                rest = later;
+            }
+        }
+    }
+    all.sort_unstable();
+    assert_eq!(all, whole);
+}
+
+#[test]
+fn the_first_entry_of_a_cell() {
+    let mut keys = [9; 2];
+    // The rest is borrowed from the cell alone.
+    let text = b"7-8,x".to_vec();
+    let read = cell_entry(b"213", &text, &mut keys);
+    assert_eq!(keys.map(|key| Key(key).to_string()), ["2137", "2138"]);
+    let rest = &text[3..];
+    assert_eq!(read, Ok(CellEntry { count: 2, rest }));
+
+    keys = [9; 2];
+    let mut refused = |text: &[u8], room| cell_entry(b"213", text, &mut keys[..room]).unwrap_err();
+    assert_eq!(refused(b"", 2), Refusal::EntryNotAllowed);
+    assert_eq!(refused(b"  ", 2), Refusal::EntryNotAllowed);
+    assert_eq!(refused(b",7", 2), Refusal::EntryNotAllowed);
+    assert_eq!(refused(b"8-7,7", 2), Refusal::RangeNotAllowed);
+    assert_eq!(refused(b"7-8,x", 1), Refusal::KeysTooMany);
+    assert_eq!(keys, [9; 2]);
 }
 
 #[test]

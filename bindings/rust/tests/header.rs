@@ -49,6 +49,7 @@ fn constants() {
         ("MOST_LINES", rate_book::MOST_LINES as u64),
         ("MOST_ENTRIES", rate_book::MOST_ENTRIES as u64),
         ("MOST_CALLS", rate_book::MOST_CALLS as u64),
+        ("MOST_CODES", rate_book::MOST_CODES as u64),
         ("HEADER_WORDS", rate_book::HEADER_WORDS as u64),
         ("WORD_ENTRIES", rate_book::WORD_ENTRIES as u64),
         ("WORD_PERIOD", rate_book::WORD_PERIOD as u64),
