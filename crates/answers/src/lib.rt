@@ -1,7 +1,8 @@
 // The answers of the library's calls as structs of 64-bit numbers, which a program in C can take.
 ghost use mathlib.Core.Path.{_≡_};
-ghost use Rattle.answers.specs.Answers.{appliedOf, answerOf, offerOf, callOf, batchOf, listOf};
+ghost use Rattle.answers.specs.Answers.{appliedOf, answerOf, offerOf, callOf, batchOf, listOf, cellOf};
 use batch::Batch;
+use cell_keys::CellCount;
 use history::Applied;
 use listing::Listed;
 use longest_match::Answer;
@@ -48,6 +49,20 @@ pub struct RateBookBatch {
 pub struct RateBookList {
     pub refusal: u64,
     pub length: u64,
+}
+
+#[repr(C)]
+pub struct RateBookCell {
+    pub refusal: u64,
+    pub count: u64,
+}
+
+// `rest` is where the part of the cell still to be read begins.
+#[repr(C)]
+pub struct RateBookCellEntry {
+    pub refusal: u64,
+    pub count: u64,
+    pub rest: u64,
 }
 
 pub fn applied_of(a: Applied) -> RateBookApplied
@@ -137,5 +152,14 @@ pub fn list_of(l: Listed) -> RateBookList
     RateBookList {
         refusal: l.refusal,
         length: l.length as u64,
+    }
+}
+
+pub fn cell_of(c: CellCount) -> RateBookCell
+    ensures { λ r. ⌜ r ≡ cellOf c ⌝ }
+{
+    RateBookCell {
+        refusal: c.refusal,
+        count: c.count,
     }
 }

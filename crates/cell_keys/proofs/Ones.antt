@@ -2,11 +2,11 @@
 use mathlib.Core.Path.{_≡_, refl, ap, sym, _∙_}
 use mathlib.Core.Bool.{Bool, true, false, cond}
 use mathlib.Core.List.{List, [], _∷_}
-use Prim.Native.Nat.{ℕ, _+_, _≤_, _<_}
+use Prim.Native.Nat.{ℕ, _+_, _-_, _≤_, _<_}
 use native.Mathlib.Omega.{arith}
 use borrow.Author.Tests.{lt-ltb, le-ltb}
 use lib.Dec.{ltb}
-use lib.ListN.{length, drop}
+use lib.ListN.{length, drop, length-drop}
 use lib.Seq.{sets}
 use Rattle.refusal.specs.Refusal.{keysTooMany}
 use Rattle.dial_code.proofs.Tests.{below, equal, above, order}
@@ -97,3 +97,11 @@ module _ (c s : List ℕ) (room : ℕ) where
 
     pub entry-rest : drop m s ≡ restOf s
     entry-rest = ap (λ (i : ℕ). drop i s) (sym (read-codes c s r m e .1)) ∙ rest-drop s
+
+-- Where the part still to be read begins.
+pub rest-begins : (s : List ℕ) → length s - length (restOf s) ≡ length (entryOf s)
+rest-begins s = omega (arith, entry-size s, length-drop (length (entryOf s)) s, ap length (rest-drop s))
+
+pub rest-within : (x : CellKeys) (s : List ℕ) → length (restAfter x s) ≤ length s
+rest-within (Keys l) s = omega (arith, length-drop (length (entryOf s)) s, ap length (rest-drop s))
+rest-within (NoKeys e) s = omega arith

@@ -2,17 +2,22 @@
 // 64-bit numbers. include/rate_book.h declares them.
 ghost use mathlib.Core.Path.{_≡_};
 ghost use lib.ListN.{length};
+ghost use lib.Seq.{sets};
 ghost use Rattle.book.specs.Answers.{freshRefusal, freshWords};
 ghost use Rattle.lookup.specs.Lookup.{lookup};
 ghost use Rattle.history.specs.Applying.{applyAnswer, applied};
 ghost use Rattle.rating.specs.Call.{rateCall};
 ghost use Rattle.batch.specs.Batch.{batchAnswer, batchRows};
 ghost use Rattle.listing.specs.List.{listAnswer, listBytes};
-ghost use Rattle.answers.specs.Answers.{appliedOf, offerOf, callOf, batchOf, listOf};
+ghost use Rattle.code_cell.specs.Cell.{cellKeys, entryKeys, keysOf};
+ghost use Rattle.cell_keys.specs.Answers.{countOf};
+ghost use Rattle.answers.specs.Answers.{appliedOf, offerOf, callOf, batchOf, listOf, cellOf, entryAnswerOf};
 ghost use Rattle.rate_book.specs.Exported.{day as dayAt, moment as momentAt, wordsFor};
 use answers::RateBookApplied;
 use answers::RateBookBatch;
 use answers::RateBookCall;
+use answers::RateBookCell;
+use answers::RateBookCellEntry;
 use answers::RateBookList;
 use answers::RateBookOffer;
 use calendar::Day;
@@ -91,4 +96,32 @@ pub extern "C" fn rate_book_list(book: &[u64], day: u64, out: &mut [u8]) -> Rate
     ensures { λ _. ⌜ now (out .exit) ≡ listBytes (now (book .entry)) (dayAt day) (now (out .entry)) ⌝ }
 {
     answers::list_of(listing::write_list(book, Day(day), out))
+}
+
+// The keys of the codes that a cell names beside a country cell: 50, 51, 52.
+#[no_mangle]
+pub extern "C" fn rate_book_cell(country: &[u8], cell: &[u8], keys: &mut [u64]) -> RateBookCell
+    ensures { λ r. ⌜ r ≡ cellOf (countOf (cellKeys (now (country .entry)) (now (cell .entry)) (length (now (keys .entry))))) ⌝ }
+    ensures { λ _. ⌜ now (keys .exit) ≡ sets (now (keys .entry)) 0 (keysOf (cellKeys (now (country .entry)) (now (cell .entry)) (length (now (keys .entry))))) ⌝ }
+{
+    answers::cell_of(cell_keys::cell_keys(country, cell, keys))
+}
+
+// The keys of the entry at the front of a cell, and where the part still to be read begins: 50, 51, 52.
+#[no_mangle]
+pub extern "C" fn rate_book_cell_entry(
+    country: &[u8],
+    cell: &[u8],
+    keys: &mut [u64],
+) -> RateBookCellEntry
+    ensures { λ r. ⌜ r ≡ entryAnswerOf (entryKeys (now (country .entry)) (now (cell .entry)) (length (now (keys .entry)))) (now (cell .entry)) ⌝ }
+    ensures { λ _. ⌜ now (keys .exit) ≡ sets (now (keys .entry)) 0 (keysOf (entryKeys (now (country .entry)) (now (cell .entry)) (length (now (keys .entry))))) ⌝ }
+{
+    let mut answer = [0; 2];
+    let rest = cell_keys::entry_keys(country, cell, keys, &mut answer);
+    RateBookCellEntry {
+        refusal: answer[0],
+        count: answer[1],
+        rest: (cell.len() - rest.len()) as u64,
+    }
 }
