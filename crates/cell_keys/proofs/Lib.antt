@@ -5,3 +5,5 @@ pub mod Turns
 pub mod Puts
 pub mod Writes
 pub mod Ones
+pub mod Backward
+pub mod Starts

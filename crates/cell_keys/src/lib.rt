@@ -12,6 +12,7 @@ ghost use Rattle.code_entry.proofs.EntryLaws.{Writable};
 ghost use Rattle.code_cell.specs.Cell.{insertAll, entriesOf, keysNamed, cellKeys, entryKeys, refusalOf, keysOf};
 ghost use Rattle.code_cell.proofs.Inserts.{Rising};
 ghost use Rattle.code_cell.proofs.RangeKeys.{keysFrom};
+ghost use Rattle.cell_keys.specs.Places.{Start, NoComma};
 ghost use Rattle.cell_keys.specs.Answers.{countOf, countWords, restAfter};
 ghost use Rattle.cell_keys.specs.Writing.{keyAt, Run, same as sameAs};
 use code_entry::CodeRange;
@@ -196,6 +197,70 @@ fn write_entries(country: &[u8], cell: &[u8], keys: &mut [u64]) -> usize
     }
 }
 
+// Where the entry that ends at a place begins: behind the comma before it, or at the cell's start.
+fn entry_start(cell: &[u8], end: usize) -> usize
+    requires { ⌜ end ≤ length (now cell) ⌝ }
+    ensures { λ r. ⌜ r ≤ end ⌝ }
+    ensures { λ r. ⌜ Start (now (cell .entry)) r ⌝ }
+    ensures { λ r. ⌜ NoComma (now (cell .entry)) r end ⌝ }
+{
+    let mut at = end;
+    while 0 < at {
+        if cell[at - 1] == b',' {
+            return at;
+        }
+        at -= 1;
+    }
+    0
+}
+
+// The same from the last entry to the first, so that entries that fall are appended too.
+fn write_backward(country: &[u8], cell: &[u8], keys: &mut [u64]) -> usize
+    requires { ⌜ refusalOf (keysNamed (length (now keys)) [] (map (entryCodes (now country)) (entriesOf (now cell)))) ≡ 0 ⌝ }
+    ensures { λ r. ⌜ r ≡ length (keysOf (keysNamed (length (now (keys .entry))) [] (map (entryCodes (now (country .entry))) (entriesOf (now (cell .entry)))))) ⌝ }
+    ensures { λ _. ⌜ now (keys .exit) ≡ sets (now (keys .entry)) 0 (keysOf (keysNamed (length (now (keys .entry))) [] (map (entryCodes (now (country .entry))) (entriesOf (now (cell .entry)))))) ⌝ }
+{
+    let mut end = cell.len();
+    let mut n: usize = 0;
+    loop {
+        let start = entry_start(cell, end);
+        match code_entry::read_entry(country, &cell[start..]) {
+            EntryRead::Refused(_) => {
+                return n;
+            }
+            EntryRead::Read(range, _) => {
+                n = put_range(keys, n, range);
+                if start == 0 {
+                    return n;
+                }
+                end = start - 1;
+            }
+        }
+    }
+}
+
+// The key of a range's first code; 0 for one that has none.
+fn first_key(range: CodeRange) -> u64 {
+    match dial_code::code_key(range.digits, range.first) {
+        Keyed::Key(key) => key,
+        Keyed::Refused(_) => 0,
+    }
+}
+
+// Whether a cell's last entry is below its first, so that its entries are better read from the last on. Keys are the same either way.
+fn is_falling(country: &[u8], cell: &[u8]) -> bool {
+    match code_entry::read_entry(country, cell) {
+        EntryRead::Refused(_) => false,
+        EntryRead::Read(first, _) => {
+            let start = entry_start(cell, cell.len());
+            match code_entry::read_entry(country, &cell[start..]) {
+                EntryRead::Refused(_) => false,
+                EntryRead::Read(last, _) => first_key(last) < first_key(first),
+            }
+        }
+    }
+}
+
 // Writes the keys of what an entry names to the front of a slice: 0, or 52.
 fn write_range(range: CodeRange, keys: &mut [u64]) -> u64
     requires { ⌜ Writable range ⌝ }
@@ -250,6 +315,13 @@ pub fn cell_keys(country: &[u8], cell: &[u8], keys: &mut [u64]) -> CellCount
         return CellCount {
             refusal: e,
             count: 0,
+        };
+    }
+    if is_falling(country, cell) {
+        let n = write_backward(country, cell, keys);
+        return CellCount {
+            refusal: 0,
+            count: n as u64,
         };
     }
     let n = write_entries(country, cell, keys);
