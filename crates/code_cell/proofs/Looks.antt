@@ -10,7 +10,7 @@ use lib.Dec.{eqb, leb, ltb}
 use lib.ListN.{length, getD, drop, drop-of-length-le}
 use lib.Seq.{drop-cons}
 use Rattle.dial_code.specs.Digits.{every}
-use Rattle.dial_code.proofs.Tests.{and-left-true, and-left-false, and-right-false}
+use Rattle.dial_code.proofs.CountedKeys.{few-tens}
 use Rattle.code_entry.specs.Entry.{blank, isBlank, isSome}
 use Rattle.code_entry.specs.declared.CodeRange.{CodeRange}
 use Rattle.code_cell.specs.Cell.{isOwn}
@@ -78,9 +78,7 @@ module _ (p r : CodeRange) where
 
 -- A range's first number.
 pub low-so : (d f t : ℕ) → d ≤ 15 → t ≡ 10 ^ min d 15 → t + f ≡ 10 ^ d + f
-low-so d f t h e =
-    let z : min d 15 ≡ d = omega arith in
-    rw (e, z)
+low-so d f t h e = ap (λ (x : ℕ). x + f) (few-tens d t h e)
 
 -- The stretch that starts first.
 module _ (a low : ℕ) (s : Stretch) (r : CodeRange) (e : low ≡ lowOf r) where

@@ -110,30 +110,6 @@ fn read_digits(own: Code, cell: &[u8], start: usize) -> Run
     Run { code, next: at }
 }
 
-// A power of ten.
-fn ten_to(n: u64) -> u64
-    requires { ⌜ n ≤ 14 ⌝ }
-    ensures { λ r. ⌜ r ≡ 10 ^ n ⌝ }
-{
-    match n {
-        0 => 1,
-        1 => 10,
-        2 => 100,
-        3 => 1_000,
-        4 => 10_000,
-        5 => 100_000,
-        6 => 1_000_000,
-        7 => 10_000_000,
-        8 => 100_000_000,
-        9 => 1_000_000_000,
-        10 => 10_000_000_000,
-        11 => 100_000_000_000,
-        12 => 1_000_000_000_000,
-        13 => 10_000_000_000_000,
-        _ => 100_000_000_000_000,
-    }
-}
-
 // Whether a code of at most two digits is allowed.
 fn is_short_code(code: Code) -> bool
     requires { ⌜ (Held code) × (code .count < 3) ⌝ }
@@ -162,7 +138,7 @@ fn is_code(code: Code) -> bool
     if MOST_DIGITS < code.count {
         return false;
     }
-    ten_to(code.count - 1) <= code.value
+    dial_code::ten_to(code.count - 1) <= code.value
 }
 
 // Whether so many codes from an allowed one on all are: from three digits on they are.

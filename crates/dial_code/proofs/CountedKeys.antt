@@ -67,6 +67,11 @@ last-ten {n} h =
     let f : min n 15 ≡ 15 = omega arith in
     rw f
 
+pub few-tens : (n t : ℕ) → n ≤ 15 → t ≡ 10 ^ min n 15 → t ≡ 10 ^ n
+few-tens n t h e =
+    let f : min n 15 ≡ n = omega arith in
+    e ∙ ap (λ (i : ℕ). 10 ^ i) f
+
 -- The key of a code sent so is below the keys' end.
 pub sent-below : (count v : ℕ) → count ≤ 15 → keyFrom 1 (digits count v) < 11 ^ 15
 unfolding key

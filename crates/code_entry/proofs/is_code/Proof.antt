@@ -2,6 +2,7 @@
 use mathlib.Core.Path.{sym}
 use native.Mathlib.Omega.{arith}
 use borrow.Author.Needs.{needs}
+use Rattle.dial_code.proofs.CountedKeys.{few-tens}
 use Rattle.code_entry.proofs.CodeTests.{by-first, over-long}
 use Rattle.code_entry.proofs.is_code.Statement.{statement}
 use Rattle.code_entry.proofs.is_code.Tie as tie
@@ -22,7 +23,8 @@ ten-to-requires : tie.Need-ten-to-requires
 ten-to-requires c κs = search needs
 
 returns-3 : tie.Need-returns-3
-returns-3 c = rw (c .before .ten-to .ensures) (sym (by-first _ _ (omega arith) (omega arith) (omega arith)))
+returns-3 c =
+    rw (few-tens _ _ (omega arith) (c .before .ten-to .ensures)) (sym (by-first _ _ (omega arith) (omega arith) (omega arith)))
 
 pub is-code-spec : {M : Type 1} → statement M
 is-code-spec =
