@@ -1,15 +1,15 @@
 // The keys of a cell of codes, written to a lent slice (document 02, request 1).
 ghost use mathlib.Core.Path.{_≡_};
-ghost use mathlib.Core.List.{[], _∷_, map};
+ghost use mathlib.Core.List.{[], _∷_};
 ghost use Prim.Native.Nat.{_+_, _-_, _^_, _≤_, _<_};
 ghost use lib.ListN.{length, take};
 ghost use lib.Seq.{sets};
 ghost use Rattle.dial_code.specs.Digits.{mostDigits};
 ghost use Rattle.code_entry.specs.Range.{rangeKeys};
-ghost use Rattle.code_entry.specs.Entry.{entryCodes, ownCode};
+ghost use Rattle.code_entry.specs.Entry.{ownCode};
 ghost use Rattle.code_entry.specs.declared.Named.the-variants.{Codes};
 ghost use Rattle.code_entry.proofs.EntryLaws.{Writable};
-ghost use Rattle.code_cell.specs.Cell.{insertAll, entriesOf, keysNamed, cellKeys, entryKeys, refusalOf, keysOf};
+ghost use Rattle.code_cell.specs.Cell.{insertAll, entryNames, keysNamed, cellKeys, entryKeys, refusalOf, keysOf};
 ghost use Rattle.code_cell.proofs.Inserts.{Rising};
 ghost use Rattle.code_cell.proofs.RangeKeys.{keysFrom};
 ghost use Rattle.cell_keys.specs.Places.{Start, NoComma};
@@ -174,9 +174,9 @@ fn put_range(keys: &mut [u64], old: usize, range: CodeRange) -> usize
 
 // Writes the keys of a cell's entries, one entry after the other.
 fn write_entries(country: &[u8], cell: &[u8], keys: &mut [u64]) -> usize
-    requires { ⌜ refusalOf (keysNamed (length (now keys)) [] (map (entryCodes (now country)) (entriesOf (now cell)))) ≡ 0 ⌝ }
-    ensures { λ r. ⌜ r ≡ length (keysOf (keysNamed (length (now (keys .entry))) [] (map (entryCodes (now (country .entry))) (entriesOf (now (cell .entry)))))) ⌝ }
-    ensures { λ _. ⌜ now (keys .exit) ≡ sets (now (keys .entry)) 0 (keysOf (keysNamed (length (now (keys .entry))) [] (map (entryCodes (now (country .entry))) (entriesOf (now (cell .entry)))))) ⌝ }
+    requires { ⌜ refusalOf (keysNamed (length (now keys)) [] (entryNames (now country) (now cell))) ≡ 0 ⌝ }
+    ensures { λ r. ⌜ r ≡ length (keysOf (keysNamed (length (now (keys .entry))) [] (entryNames (now (country .entry)) (now (cell .entry))))) ⌝ }
+    ensures { λ _. ⌜ now (keys .exit) ≡ sets (now (keys .entry)) 0 (keysOf (keysNamed (length (now (keys .entry))) [] (entryNames (now (country .entry)) (now (cell .entry))))) ⌝ }
 {
     let mut at: usize = 0;
     let mut n: usize = 0;
@@ -216,9 +216,9 @@ fn entry_start(cell: &[u8], end: usize) -> usize
 
 // The same from the last entry to the first, so that entries that fall are appended too.
 fn write_backward(country: &[u8], cell: &[u8], keys: &mut [u64]) -> usize
-    requires { ⌜ refusalOf (keysNamed (length (now keys)) [] (map (entryCodes (now country)) (entriesOf (now cell)))) ≡ 0 ⌝ }
-    ensures { λ r. ⌜ r ≡ length (keysOf (keysNamed (length (now (keys .entry))) [] (map (entryCodes (now (country .entry))) (entriesOf (now (cell .entry)))))) ⌝ }
-    ensures { λ _. ⌜ now (keys .exit) ≡ sets (now (keys .entry)) 0 (keysOf (keysNamed (length (now (keys .entry))) [] (map (entryCodes (now (country .entry))) (entriesOf (now (cell .entry)))))) ⌝ }
+    requires { ⌜ refusalOf (keysNamed (length (now keys)) [] (entryNames (now country) (now cell))) ≡ 0 ⌝ }
+    ensures { λ r. ⌜ r ≡ length (keysOf (keysNamed (length (now (keys .entry))) [] (entryNames (now (country .entry)) (now (cell .entry))))) ⌝ }
+    ensures { λ _. ⌜ now (keys .exit) ≡ sets (now (keys .entry)) 0 (keysOf (keysNamed (length (now (keys .entry))) [] (entryNames (now (country .entry)) (now (cell .entry))))) ⌝ }
 {
     let mut end = cell.len();
     let mut n: usize = 0;

@@ -15,7 +15,7 @@ use Rattle.code_entry.specs.declared.CodeRange.{CodeRange}
 use Rattle.code_entry.specs.declared.Named.{Named}
 use Rattle.code_entry.specs.declared.Named.the-variants.{Codes, Refused}
 use Rattle.code_entry.proofs.EntryLaws.{Writable, writable, own-writable}
-use Rattle.code_cell.specs.Cell.{insertAll, entriesOf, isOwn, namesOf, keysNamed, cellKeys, CellKeys, Keys, NoKeys, refusalOf}
+use Rattle.code_cell.specs.Cell.{insertAll, entriesOf, entryNames, isOwn, namesOf, keysNamed, cellKeys, CellKeys, Keys, NoKeys, refusalOf}
 use Rattle.code_cell.specs.Count.{goodRanges, firstRefusal, allKeys, boundOf, told, surveyOf, noRange, stretch, closer, closest}
 use Rattle.code_cell.specs.declared.Stretch.{Stretch}
 use Rattle.code_cell.specs.declared.Survey.{Survey}
@@ -55,7 +55,7 @@ good-writable c (e ∷ es) = go (entryCodes c e) refl (good-writable c es)
 
 -- What the entries of a cell before the first refused one name, and how many distinct codes of it are left from a number on.
 abbrev pub rangesOf : List ℕ → List ℕ → List CodeRange
-rangesOf c s = goodRanges (map (entryCodes c) (entriesOf s))
+rangesOf c s = goodRanges (entryNames c s)
 
 abbrev pub codesLeft : List ℕ → List ℕ → ℕ → ℕ
 codesLeft c s a = left (rangesOf c s) (good-writable c (entriesOf s)) a
@@ -87,15 +87,15 @@ module _ (room : ℕ) (ks : List ℕ) (e : ℕ) where
 
 module _ (c s : List ℕ) (room : ℕ) where
   abbrev pub names : List Named
-  names = map (entryCodes c) (entriesOf s)
+  names = entryNames c s
 
   pub own-cell : isOwn c s ≡ true → cellKeys c s room ≡ keysNamed room [] (ownCode c ∷ [])
   unfolding cellKeys
-  own-cell o = ap (λ (t : Bool). keysNamed room [] (cond t (ownCode c ∷ []) (map (entryCodes c) (entriesOf s)))) o
+  own-cell o = ap (λ (t : Bool). keysNamed room [] (cond t (ownCode c ∷ []) (entryNames c s))) o
 
   pub plain-cell : isOwn c s ≡ false → cellKeys c s room ≡ keysNamed room [] names
   unfolding cellKeys
-  plain-cell o = ap (λ (t : Bool). keysNamed room [] (cond t (ownCode c ∷ []) (map (entryCodes c) (entriesOf s)))) o
+  plain-cell o = ap (λ (t : Bool). keysNamed room [] (cond t (ownCode c ∷ []) (entryNames c s))) o
 
   by-decision : isOwn c s ≡ false → cellKeys c s room ≡ decision room (allKeys [] (goodRanges names)) (firstRefusal names)
   by-decision o = plain-cell o ∙ decided room [] names (omega arith) (entries-caused c (entriesOf s))

@@ -53,9 +53,12 @@ keysNamed room l (Codes r ∷ ns) =
 abbrev pub isOwn : List ℕ → List ℕ → Bool
 isOwn c s = isSome c && every isBlank s
 
+abbrev pub entryNames : List ℕ → List ℕ → List Named
+entryNames c s = map (entryCodes c) (entriesOf s)
+
 unfoldable pub namesOf : List ℕ → List ℕ → List Named
 unfolding entriesOf entryCodes ownCode
-namesOf c s = cond (isOwn c s) (ownCode c ∷ []) (map (entryCodes c) (entriesOf s))
+namesOf c s = cond (isOwn c s) (ownCode c ∷ []) (entryNames c s)
 
 -- The whole cell: 50, 51, 52.
 unfoldable pub cellKeys : List ℕ → List ℕ → ℕ → CellKeys
@@ -67,7 +70,7 @@ unfoldable pub entryKeys : List ℕ → List ℕ → ℕ → CellKeys
 unfolding keysNamed entryCodes entryOf
 entryKeys c s room = keysNamed room [] (entryCodes c (entryOf s) ∷ [])
 
--- refusal number or 0, the keys, and the lent words: the keys at their front, or as they were
+-- Refusal number or 0, and the keys, which go to the front of the lent words: none where the cell is refused.
 abbrev pub refusalOf : CellKeys → ℕ
 refusalOf (Keys l) = 0
 refusalOf (NoKeys e) = e

@@ -1,11 +1,12 @@
 -- The codes of a cell counted without memory: each code has a number of its own, its digits behind a 1, so that a range is a stretch
 -- of numbers, and the distinct codes are counted stretch by stretch.
+use mathlib.Core.Path.{_≡_, refl}
 use mathlib.Core.Bool.{Bool, true, false, cond, _&&_, _||_}
-use mathlib.Core.List.{List, [], _∷_}
+use mathlib.Core.List.{List, [], _∷_, _++_, map}
 use Prim.Native.Nat.{ℕ, _+_, _*_, _^_, max}
 use lib.Dec.{eqb, leb, ltb}
 use Rattle.dial_code.specs.Digits.{mostDigits}
-use Rattle.code_entry.specs.Range.{rangeKeys}
+use Rattle.code_entry.specs.Range.{rangeOf, rangeKeys}
 use Rattle.code_entry.specs.declared.CodeRange.{CodeRange}
 use Rattle.code_entry.specs.declared.Named.{Named}
 use Rattle.code_entry.specs.declared.Named.the-variants.{Codes, Refused}
@@ -82,3 +83,38 @@ surveyOf room b p ns = told (firstRefusal ns) (boundOf room b p ns)
 -- no codes
 abbrev pub noRange : CodeRange
 noRange = record { digits = 0; first = 0; count = 0 }
+
+-- 7, 98, 99: the last is refused, and nothing behind it counts
+named : List Named
+named = Codes (rangeOf 1 7 1) ∷ Codes (rangeOf 2 98 1) ∷ Refused 50 ∷ Codes (rangeOf 1 1 1) ∷ []
+
+before-refused :
+    goodRanges named ∷ goodRanges [] ∷ [] ≡ (rangeOf 1 7 1 ∷ rangeOf 2 98 1 ∷ []) ∷ [] ∷ []
+unfolding goodRanges named
+before-refused = refl
+
+first-refused : firstRefusal named ∷ firstRefusal [] ∷ [] ≡ 50 ∷ 0 ∷ []
+unfolding firstRefusal named
+first-refused = refl
+
+-- 7, 1 and 7 again
+all : allKeys [] (rangeOf 1 7 1 ∷ rangeOf 1 1 1 ∷ rangeOf 1 7 1 ∷ []) ≡ rangeKeys (rangeOf 1 1 1) ++ rangeKeys (rangeOf 1 7 1)
+unfolding allKeys insertAll rangeKeys
+all = refl
+
+-- Of 43 to 46 and 44 to 48, from nothing, from inside, from the end on
+stretches :
+    map (λ (a : ℕ). closest a (stretch marksEnd marksEnd) (rangeOf 2 44 5 ∷ rangeOf 2 43 4 ∷ [])) (0 ∷ 145 ∷ 147 ∷ 149 ∷ [])
+    ≡ stretch 143 147 ∷ stretch 145 149 ∷ stretch 147 149 ∷ stretch marksEnd marksEnd ∷ []
+unfolding closest
+stretches = refl
+
+-- 43 to 46, the same again, 7: one that stands twice in a row counts once; above the room nothing is added
+bounds :
+    boundOf 9 0 noRange (Codes (rangeOf 2 43 4) ∷ Codes (rangeOf 2 43 4) ∷ Codes (rangeOf 1 7 1) ∷ [])
+    ∷ boundOf 3 0 noRange (Codes (rangeOf 2 43 4) ∷ Codes (rangeOf 1 7 1) ∷ [])
+    ∷ boundOf 9 0 noRange named
+    ∷ []
+    ≡ 5 ∷ 4 ∷ 2 ∷ []
+unfolding boundOf named
+bounds = refl

@@ -1,14 +1,14 @@
 // What a cell of codes is refused for (document 02, request 1): known before a word is written, with no memory but a few numbers.
 ghost use mathlib.Core.Path.{_≡_};
-ghost use mathlib.Core.List.{[], _∷_, map};
+ghost use mathlib.Core.List.{[], _∷_};
 ghost use Prim.Native.Nat.{_+_, _^_, _≤_, _<_};
 ghost use lib.Dec.{leb};
 ghost use lib.ListN.{length};
 ghost use Rattle.dial_code.specs.Digits.{every};
-ghost use Rattle.code_entry.specs.Entry.{isBlank, mostCodes, entryCodes, ownCode};
+ghost use Rattle.code_entry.specs.Entry.{isBlank, mostCodes, ownCode};
 ghost use Rattle.code_entry.proofs.EntryLaws.{Writable};
-ghost use Rattle.code_cell.specs.Cell.{entriesOf, isOwn, keysNamed, cellKeys, refusalOf};
-ghost use Rattle.code_cell.specs.Count.{lowOf, marksEnd, goodRanges, allKeys, sameRange, added as addedTo, surveyOf, noRange, stretch, closer as closerOf, closest};
+ghost use Rattle.code_cell.specs.Cell.{isOwn, entryNames, keysNamed, cellKeys, refusalOf};
+ghost use Rattle.code_cell.specs.Count.{marksEnd, goodRanges, allKeys, sameRange, added as addedTo, surveyOf, noRange, stretch, closer as closerOf, closest};
 use code_entry::CodeRange;
 use code_entry::EntryRead;
 use code_entry::Named;
@@ -83,7 +83,7 @@ fn added(room: usize, bound: u64, before: CodeRange, range: CodeRange) -> u64
 // Looks at each entry up to the first that is refused.
 fn look_over(country: &[u8], cell: &[u8], room: usize) -> Survey
     requires { ⌜ room + mostCodes < 2 ^ 64 ⌝ }
-    ensures { λ r. ⌜ r ≡ surveyOf room 0 noRange (map (entryCodes (now (country .entry))) (entriesOf (now (cell .entry)))) ⌝ }
+    ensures { λ r. ⌜ r ≡ surveyOf room 0 noRange (entryNames (now (country .entry)) (now (cell .entry))) ⌝ }
 {
     let mut at: usize = 0;
     let mut bound: u64 = 0;
@@ -134,7 +134,7 @@ fn closer(from: u64, found: Stretch, range: CodeRange) -> Stretch
 
 // The first stretch of numbers from one on that entries before the first refused one name.
 fn next_stretch(country: &[u8], cell: &[u8], from: u64) -> Stretch
-    ensures { λ r. ⌜ r ≡ closest from (stretch marksEnd marksEnd) (goodRanges (map (entryCodes (now (country .entry))) (entriesOf (now (cell .entry))))) ⌝ }
+    ensures { λ r. ⌜ r ≡ closest from (stretch marksEnd marksEnd) (goodRanges (entryNames (now (country .entry)) (now (cell .entry)))) ⌝ }
 {
     let mut at: usize = 0;
     let mut found = Stretch {
@@ -160,7 +160,7 @@ fn next_stretch(country: &[u8], cell: &[u8], from: u64) -> Stretch
 
 // Whether the distinct codes of the entries before the first refused one are no more than a room, counted stretch by stretch.
 fn fits(country: &[u8], cell: &[u8], room: usize) -> bool
-    ensures { λ r. ⌜ r ≡ leb (length (allKeys [] (goodRanges (map (entryCodes (now (country .entry))) (entriesOf (now (cell .entry))))))) room ⌝ }
+    ensures { λ r. ⌜ r ≡ leb (length (allKeys [] (goodRanges (entryNames (now (country .entry)) (now (cell .entry)))))) room ⌝ }
 {
     let mut from: u64 = 0;
     let mut left = room as u64;
