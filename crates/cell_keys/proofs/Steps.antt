@@ -4,17 +4,14 @@ use Prim.Native.Nat.{ℕ, zero, suc, _+_, _-_, _*_, _/_, _%_, _^_, _≤_, _<_}
 use native.Mathlib.Nat.{one-le-pow}
 use native.Mathlib.Omega.{arith}
 use lib.Dec.{lit<}
-use Rattle.dial_code.specs.Digits.{digits}
-use Rattle.dial_code.specs.Key.{key, codeKey}
-use Rattle.dial_code.specs.declared.Keyed.the-variants.{Key, Refused}
-use Rattle.dial_code.proofs.CountedKeys.{next-weight, weight-most, sent}
+use Rattle.dial_code.specs.Key.{keyOrZero}
+use Rattle.dial_code.proofs.CountedKeys.{next-weight, weight-most, key-so}
 use Rattle.code_cell.proofs.RangeKeys.{no-carry, carry, carried}
 use Rattle.cell_keys.specs.Writing.{keyAt, Run}
 
 -- A code of a run has its key.
-pub keyed : (k v : ℕ) → Run k v 1 → codeKey k v ≡ Key (keyAt k v)
-unfolding key
-keyed k v r = sent k v (r .0) (r .1) (omega (arith, r .2, r .3))
+pub keyed : (k v : ℕ) → Run k v 1 → keyOrZero k v ≡ keyAt k v
+keyed k v r = key-so k v (r .0) (r .1) (omega (arith, r .3))
 
 -- The code at v with `less` taken off, as far from the next as the code asked about: k digits of it are left.
 pub record Carries (digits value k v w less : ℕ) : Type 0 where

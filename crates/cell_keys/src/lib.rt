@@ -18,7 +18,6 @@ ghost use Rattle.cell_keys.specs.Writing.{keyAt, Run, same as sameAs};
 use code_entry::CodeRange;
 use code_entry::EntryRead;
 use code_entry::Named;
-use dial_code::Keyed;
 
 // The answer to a cell: refusal number or 0, and how many keys were written.
 pub struct CellCount {
@@ -31,10 +30,7 @@ fn key_of(digits: u64, value: u64) -> u64
     requires { ⌜ Run digits value 1 ⌝ }
     ensures { λ r. ⌜ r ≡ keyAt digits value ⌝ }
 {
-    match dial_code::code_key(digits, value) {
-        Keyed::Key(key) => key,
-        Keyed::Refused(_) => 0,
-    }
+    dial_code::key_or_zero(digits, value)
 }
 
 // How far the key of the next code is: the weight of the last place, less 9 times that of each place that goes from 9 to 0.
@@ -239,14 +235,6 @@ fn write_backward(country: &[u8], cell: &[u8], keys: &mut [u64]) -> usize
     }
 }
 
-// The key of a range's first code; 0 for one that has none.
-fn first_key(range: CodeRange) -> u64 {
-    match dial_code::code_key(range.digits, range.first) {
-        Keyed::Key(key) => key,
-        Keyed::Refused(_) => 0,
-    }
-}
-
 // Whether a cell's last entry is below its first, so that its entries are better read from the last on. Keys are the same either way.
 fn is_falling(country: &[u8], cell: &[u8]) -> bool {
     match code_entry::read_entry(country, cell) {
@@ -255,7 +243,10 @@ fn is_falling(country: &[u8], cell: &[u8]) -> bool {
             let start = entry_start(cell, cell.len());
             match code_entry::read_entry(country, &cell[start..]) {
                 EntryRead::Refused(_) => false,
-                EntryRead::Read(last, _) => first_key(last) < first_key(first),
+                EntryRead::Read(last, _) => {
+                    dial_code::key_or_zero(last.digits, last.first)
+                        < dial_code::key_or_zero(first.digits, first.first)
+                }
             }
         }
     }

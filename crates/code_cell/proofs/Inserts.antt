@@ -156,7 +156,7 @@ rising-last (x ∷ xs) k r =
     let b = rising-last xs k (r .1) in
     ((a .0, b .0), (a .1, b .1))
 
-above-append : (x : ℕ) (l m : List ℕ) → Above x l → Above x m → Above x (l ++ m)
+pub above-append : (x : ℕ) (l m : List ℕ) → Above x l → Above x m → Above x (l ++ m)
 above-append x [] m a b = b
 above-append x (y ∷ ys) m a b = (a .0, above-append x ys m (a .1) b)
 
@@ -206,3 +206,10 @@ all-above (k ∷ ks) l r a = ap (insert k) (all-above ks l (r .1) (a .1)) ∙ in
 
 pub all-last : (k : ℕ) (ks l : List ℕ) → Rising (k ∷ ks) → Below l k → insertAll (k ∷ ks) l ≡ l ++ (k ∷ ks)
 all-last k ks l r b = all-above (k ∷ ks) l r (b, aboves-all k ks l (r .0) b)
+
+-- Rising keys below all go to the front.
+pub all-first : (ks l : List ℕ) (k : ℕ) → Rising ks → Below ks k → ((j : ℕ) → j < k → Above j l) → insertAll ks l ≡ ks ++ l
+unfolding insertAll
+all-first [] l k r b a = refl
+all-first (j ∷ ks) l k r b a =
+    ap (insert j) (all-first ks l k (r .1) (b .1) a) ∙ insert-first j (ks ++ l) (above-append j ks l (r .0) (a j (b .0)))

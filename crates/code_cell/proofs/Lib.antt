@@ -9,3 +9,4 @@ pub mod Decisions
 pub mod Bounds
 pub mod Looks
 pub mod Refusals
+pub mod Orders

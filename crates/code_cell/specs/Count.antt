@@ -3,14 +3,16 @@
 use mathlib.Core.Path.{_≡_, refl}
 use mathlib.Core.Bool.{Bool, true, false, cond, _&&_, _||_}
 use mathlib.Core.List.{List, [], _∷_, _++_, map}
-use Prim.Native.Nat.{ℕ, _+_, _*_, _^_, max}
+use Prim.Native.Nat.{ℕ, _+_, _-_, _*_, _^_, max}
 use lib.Dec.{eqb, leb, ltb}
-use Rattle.dial_code.specs.Digits.{mostDigits}
+use Rattle.dial_code.specs.Digits.{mostDigits, digits}
+use Rattle.dial_code.specs.Key.{key, keysEnd}
 use Rattle.code_entry.specs.Range.{rangeOf, rangeKeys}
 use Rattle.code_entry.specs.declared.CodeRange.{CodeRange}
 use Rattle.code_entry.specs.declared.Named.{Named}
 use Rattle.code_entry.specs.declared.Named.the-variants.{Codes, Refused}
 use Rattle.code_cell.specs.Cell.{insertAll}
+use Rattle.code_cell.specs.declared.Order.{Order}
 use Rattle.code_cell.specs.declared.Stretch.{Stretch}
 use Rattle.code_cell.specs.declared.Survey.{Survey}
 
@@ -118,3 +120,38 @@ bounds :
     ≡ 5 ∷ 4 ∷ 2 ∷ []
 unfolding boundOf named
 bounds = refl
+
+-- The keys of a range's first and last code.
+abbrev pub firstKey : CodeRange → ℕ
+firstKey r = key (digits (r .digits) (r .first))
+
+abbrev pub lastKey : CodeRange → ℕ
+lastKey r = key (digits (r .digits) (r .first + (r .count - 1)))
+
+-- Ranges so far, whether each is above all before it or each below: the last key of the last one, and its first.
+abbrev pub order : Bool → Bool → ℕ → ℕ → Order
+order up down top bottom = record { rises = up; falls = down; top = top; bottom = bottom }
+
+unfoldable pub orderWith : Order → CodeRange → Order
+orderWith o r = order (o .rises && ltb (o .top) (firstKey r)) (o .falls && ltb (lastKey r) (o .bottom)) (lastKey r) (firstKey r)
+
+unfoldable pub ordered : Order → List CodeRange → Bool
+unfolding orderWith
+ordered o [] = o .rises || o .falls
+ordered o (r ∷ rs) = ordered (orderWith o r) rs
+
+-- no ranges yet: every key is above 0 and below the keys' end
+abbrev pub noOrder : Order
+noOrder = order true true 0 keysEnd
+
+-- 20, 211, 27 rise, their reverse falls; 27, 20, 211 do neither; nor do 43 to 46 and 44
+orders :
+    map (ordered noOrder)
+    ((rangeOf 2 20 1 ∷ rangeOf 3 211 1 ∷ rangeOf 2 27 1 ∷ [])
+    ∷ (rangeOf 2 27 1 ∷ rangeOf 3 211 1 ∷ rangeOf 2 20 1 ∷ [])
+    ∷ (rangeOf 2 27 1 ∷ rangeOf 2 20 1 ∷ rangeOf 3 211 1 ∷ [])
+    ∷ (rangeOf 2 43 4 ∷ rangeOf 2 44 1 ∷ [])
+    ∷ [])
+    ≡ true ∷ true ∷ false ∷ false ∷ []
+unfolding ordered digits key
+orders = refl

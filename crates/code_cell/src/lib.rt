@@ -1,17 +1,19 @@
 // What a cell of codes is refused for (document 02, request 1): known before a word is written, with no memory but a few numbers.
 ghost use mathlib.Core.Path.{_≡_};
+ghost use mathlib.Core.Bool.{_&&_, _||_};
 ghost use mathlib.Core.List.{[], _∷_};
 ghost use Prim.Native.Nat.{_+_, _^_, _≤_, _<_};
-ghost use lib.Dec.{leb};
+ghost use lib.Dec.{leb, ltb};
 ghost use lib.ListN.{length};
 ghost use Rattle.dial_code.specs.Digits.{every};
 ghost use Rattle.code_entry.specs.Entry.{isBlank, mostCodes, ownCode};
 ghost use Rattle.code_entry.proofs.EntryLaws.{Writable};
 ghost use Rattle.code_cell.specs.Cell.{isOwn, entryNames, keysNamed, cellKeys, refusalOf};
-ghost use Rattle.code_cell.specs.Count.{marksEnd, goodRanges, allKeys, sameRange, added as addedTo, surveyOf, noRange, stretch, closer as closerOf, closest};
+ghost use Rattle.code_cell.specs.Count.{marksEnd, goodRanges, allKeys, sameRange, added as addedTo, surveyOf, noRange, stretch, closer as closerOf, closest, orderWith, ordered, noOrder};
 use code_entry::CodeRange;
 use code_entry::EntryRead;
 use code_entry::Named;
+use dial_code::KEYS_END;
 
 // Every code's number is below this.
 const MARKS_END: u64 = 2_000_000_000_000_000;
@@ -26,6 +28,14 @@ pub struct Stretch {
 pub struct Survey {
     pub refusal: u64,
     pub bound: u64,
+}
+
+// Whether ranges rise or fall, with the last and the first key of the last of them.
+pub struct Order {
+    pub rises: bool,
+    pub falls: bool,
+    pub top: u64,
+    pub bottom: u64,
 }
 
 // Whether all bytes are blanks.
@@ -177,6 +187,70 @@ fn fits(country: &[u8], cell: &[u8], room: usize) -> bool
     }
 }
 
+// Whether what held still does, with one number below another.
+fn still(held: bool, a: u64, b: u64) -> bool
+    ensures { λ r. ⌜ r ≡ (held && ltb a b) ⌝ }
+{
+    if held {
+        return a < b;
+    }
+    false
+}
+
+// The order with one range more.
+fn order_with(order: Order, range: CodeRange) -> Order
+    requires { ⌜ Writable range ⌝ }
+    ensures { λ r. ⌜ r ≡ orderWith order range ⌝ }
+{
+    let first = dial_code::key_or_zero(range.digits, range.first);
+    let last = dial_code::key_or_zero(range.digits, range.first + (range.count - 1));
+    let rises = still(order.rises, order.top, first);
+    let falls = still(order.falls, last, order.bottom);
+    Order {
+        rises,
+        falls,
+        top: last,
+        bottom: first,
+    }
+}
+
+fn is_either(order: Order) -> bool
+    ensures { λ r. ⌜ r ≡ (order .rises || order .falls) ⌝ }
+{
+    if order.rises {
+        return true;
+    }
+    order.falls
+}
+
+// Whether the entries before the first refused one rise, or fall: then no code is named twice.
+fn is_ordered(country: &[u8], cell: &[u8]) -> bool
+    ensures { λ r. ⌜ r ≡ ordered noOrder (goodRanges (entryNames (now (country .entry)) (now (cell .entry)))) ⌝ }
+{
+    let mut at: usize = 0;
+    let mut order = Order {
+        rises: true,
+        falls: true,
+        top: 0,
+        bottom: KEYS_END,
+    };
+    loop {
+        match code_entry::read_entry(country, &cell[at..]) {
+            EntryRead::Refused(_) => {
+                return is_either(order);
+            }
+            EntryRead::Read(range, size) => {
+                order = order_with(order, range);
+                at += size;
+                if at == cell.len() {
+                    return is_either(order);
+                }
+                at += 1;
+            }
+        }
+    }
+}
+
 // Why the country's own code is refused, or 0.
 fn own_refusal(country: &[u8], room: usize) -> u64
     ensures { λ r. ⌜ r ≡ refusalOf (keysNamed room [] (ownCode (now (country .entry)) ∷ [])) ⌝ }
@@ -202,6 +276,9 @@ pub fn cell_refusal(country: &[u8], cell: &[u8], keys: &[u64]) -> u64
     let survey = look_over(country, cell, keys.len());
     if survey.bound <= keys.len() as u64 {
         return survey.refusal;
+    }
+    if is_ordered(country, cell) {
+        return refusal::KEYS_TOO_MANY;
     }
     if fits(country, cell, keys.len()) {
         return survey.refusal;

@@ -1,5 +1,6 @@
 -- The key of a code sent as a count of digits and a value, one digit at a time from the last. Assumes nothing.
-use mathlib.Core.Path.{_≡_, ap, sym, _∙_}
+use mathlib.Core.Path.{_≡_, refl, ap, sym, _∙_}
+use mathlib.Core.Bool.{Bool, true, false, cond}
 use mathlib.Core.List.{List, [], _∷_, _++_}
 use Prim.Native.Nat.{ℕ, zero, suc, _+_, _-_, _*_, _/_, _%_, _^_, _≤_, _<_, min}
 use native.Mathlib.Nat.{pow-suc, pow-succ', pow-le-pow-right, one-le-pow}
@@ -9,8 +10,8 @@ use borrow.Author.Tests.{lt-leb, le-leb, lt-ltb, le-ltb}
 use lib.Dec.{lit<}
 use lib.ListN.{length}
 use Rattle.refusal.specs.Refusal.{outOfRange}
-use Rattle.dial_code.specs.Digits.{digits}
-use Rattle.dial_code.specs.Key.{keyFrom, key, codeKey}
+use Rattle.dial_code.specs.Digits.{digits, isWritten}
+use Rattle.dial_code.specs.Key.{keyFrom, key, codeKey, keyOrZero}
 use Rattle.dial_code.specs.declared.Keyed.the-variants.{Key, Refused}
 use Rattle.dial_code.proofs.DigitLaws.{length-digits, digits-last, digits-are}
 use Rattle.dial_code.proofs.KeyLaws.{below-end}
@@ -94,6 +95,27 @@ module _ (count v : ℕ) where
   pub sent : 0 < count → count ≤ 15 → v < 10 ^ count → codeKey count v ≡ Key (keyFrom 1 (digits count v))
   unfolding codeKey
   sent p h l = rw (le-leb 1 count p, le-leb count 15 h, lt-ltb v (10 ^ count) l)
+
+  -- The key, or 0, by whether there is one.
+  pub key-so : 0 < count → count ≤ 15 → v < 10 ^ count → keyOrZero count v ≡ key (digits count v)
+  unfolding keyOrZero
+  key-so p h l = rw (le-leb 1 count p, le-leb count 15 h, lt-ltb v (10 ^ count) l)
+
+  pub key-told : (k : ℕ) → codeKey count v ≡ Key k → keyOrZero count v ≡ k
+  unfolding codeKey keyOrZero
+  key-told k q = go (isWritten count v) q
+    where
+      go : (t : Bool) → cond t (Key (key (digits count v))) (Refused outOfRange) ≡ Key k → cond t (key (digits count v)) 0 ≡ k
+      go true r = cc
+      go false r = let z : _≡_ {A = ℕ} 0 1 = cc in absurd (omega arith)
+
+  pub zero-told : (e : ℕ) → codeKey count v ≡ Refused e → keyOrZero count v ≡ 0
+  unfolding codeKey keyOrZero
+  zero-told e q = go (isWritten count v) q
+    where
+      go : (t : Bool) → cond t (Key (key (digits count v))) (Refused outOfRange) ≡ Refused e → _≡_ {A = ℕ} (cond t (key (digits count v)) 0) 0
+      go true r = let z : _≡_ {A = ℕ} 0 1 = cc in absurd (omega arith)
+      go false r = refl
 
 -- The digits left after those weighed: a turn takes the last away, and a value that so many digits can write leaves none.
 pub less-left : (k v : ℕ) {rest : ℕ} → 0 < k → v / 10 ^ k ≡ rest → v / 10 / 10 ^ (k - 1) ≡ rest

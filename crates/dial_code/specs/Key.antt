@@ -58,6 +58,11 @@ unfoldable pub codeKey : ℕ → ℕ → Keyed
 unfolding key digits isWritten
 codeKey count v = cond (isWritten count v) (Key (key (digits count v))) (Refused outOfRange)
 
+-- The same, or 0, which is no key.
+unfoldable pub keyOrZero : ℕ → ℕ → ℕ
+unfolding key digits isWritten
+keyOrZero count v = cond (isWritten count v) (key (digits count v)) 0
+
 -- The key of a key's first n digits: the key less its remainder by 11^(15 − n).
 unfoldable pub prefixKey : ℕ → ℕ → ℕ
 prefixKey w n = w - w % 11 ^ (mostDigits - n)
@@ -121,6 +126,11 @@ code-keys :
     ≡ Key 759499667166482 ∷ Refused 4 ∷ Refused 4 ∷ Refused 4 ∷ Key (key (0 ∷ 1 ∷ [])) ∷ []
 unfolding codeKey
 code-keys = refl
+
+-- code 1, a count of 0, a value too large for its count
+keys-or-zero : keyOrZero 1 1 ∷ keyOrZero 0 0 ∷ keyOrZero 2 100 ∷ [] ≡ 759499667166482 ∷ 0 ∷ 0 ∷ []
+unfolding keyOrZero
+keys-or-zero = refl
 
 -- the first two digits of 234, all three, none
 prefixes :

@@ -2,7 +2,7 @@
 ghost use mathlib.Core.Path.{_≡_};
 ghost use Prim.Native.Nat.{_-_, _^_, min};
 ghost use Rattle.dial_code.specs.Digits.{mostDigits};
-ghost use Rattle.dial_code.specs.Key.{codeKey, codeOf, isGapless};
+ghost use Rattle.dial_code.specs.Key.{codeKey, keyOrZero, codeOf, isGapless};
 
 // At most so many digits.
 pub const MOST_DIGITS: u64 = 15;
@@ -102,6 +102,16 @@ pub fn code_key(count: u64, value: u64) -> Keyed
         return Keyed::Refused(refusal::OUT_OF_RANGE);
     }
     Keyed::Key(key)
+}
+
+// The key of a code sent so; 0, which is no key, where one is outside its range.
+pub fn key_or_zero(count: u64, value: u64) -> u64
+    ensures { λ r. ⌜ r ≡ keyOrZero count value ⌝ }
+{
+    match code_key(count, value) {
+        Keyed::Key(key) => key,
+        Keyed::Refused(_) => 0,
+    }
 }
 
 // The count of digits and the value of the code that a word is the key of.
