@@ -16,8 +16,10 @@ use Rattle.code_entry.specs.declared.Named.{Named}
 use Rattle.code_entry.specs.declared.Named.the-variants.{Codes, Refused}
 use Rattle.code_cell.specs.Cell.{insert, insertAll, before, entriesOf, CellKeys, Keys, NoKeys, keysNamed, refusalOf, keysOf}
 use Rattle.code_cell.specs.Count.{goodRanges, firstRefusal, allKeys}
-use Rattle.code_cell.proofs.Inserts.{Above, Rising, all-rising, all-longer, above-less}
-use Rattle.code_cell.proofs.Members.{holds, holds-all, above-out, or-false, or-assoc}
+use Rattle.code_cell.specs.Rising.{Above, Rising}
+use Rattle.code_cell.proofs.Inserts.{all-rising, all-longer, above-less}
+use Rattle.code_cell.specs.Rising.{holds}
+use Rattle.code_cell.proofs.Members.{holds-all, above-out, or-false, or-assoc}
 use Rattle.code_cell.proofs.Decisions.{Caused, AllCaused, decision, decided}
 
 -- Two rising lists that hold the same are the same.

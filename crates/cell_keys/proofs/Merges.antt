@@ -8,9 +8,11 @@ use lib.ListN.{length, getD, take, drop, set, length-set, take-append-drop}
 use lib.Seq.{sets, sets-eq, set-comm, take-suc, take-set-le, length-take-le}
 use Rattle.dial_code.proofs.Tests.{below, equal, above, order}
 use Rattle.code_cell.specs.Cell.{insertAll}
-use Rattle.code_cell.proofs.Inserts.{Below, Rising, all-before, all-longer, all-none, all-into-none, last-new, last-both}
+use Rattle.code_cell.specs.Rising.{Below, Rising}
+use Rattle.code_cell.proofs.Inserts.{all-before, all-longer, all-none, all-into-none, last-new, last-both}
 use Rattle.code_cell.proofs.Inserts.{below-more, below-append, rising-last, length-last}
-use Rattle.code_cell.proofs.RangeKeys.{keysFrom, last-key, no-keys, keys-below, keys-rising, length-keys}
+use Rattle.code_entry.specs.Range.{keysFrom}
+use Rattle.code_cell.proofs.RangeKeys.{last-key, no-keys, keys-below, keys-rising, length-keys}
 use Rattle.cell_keys.specs.Writing.{keyAt, Run, same}
 
 -- The keys of the first q codes of a run, and the first p words of a slice, together.

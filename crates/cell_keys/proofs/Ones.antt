@@ -16,10 +16,12 @@ use Rattle.code_entry.specs.declared.CodeRange.{CodeRange}
 use Rattle.code_entry.specs.declared.Named.{Named}
 use Rattle.code_entry.specs.declared.Named.the-variants.{Codes, Refused}
 use Rattle.code_entry.specs.declared.EntryRead.the-variants as entry
-use Rattle.code_entry.proofs.EntryLaws.{Writable, writable, entry-size, rest-drop}
+use Rattle.code_entry.specs.Range.{Writable}
+use Rattle.code_entry.proofs.EntryLaws.{writable, entry-size, rest-drop}
 use Rattle.code_cell.specs.Cell.{insertAll, CellKeys, Keys, NoKeys, keysNamed, entryKeys, refusalOf, keysOf}
 use Rattle.code_cell.proofs.Inserts.{all-into-none}
-use Rattle.code_cell.proofs.RangeKeys.{keysFrom, range-keys, keys-rising, length-keys}
+use Rattle.code_entry.specs.Range.{keysFrom}
+use Rattle.code_cell.proofs.RangeKeys.{range-keys, keys-rising, length-keys}
 use Rattle.code_cell.proofs.Names.{read-codes, read-refused}
 use Rattle.cell_keys.specs.Answers.{restAfter}
 use Rattle.cell_keys.specs.declared.CellCount.{CellCount}

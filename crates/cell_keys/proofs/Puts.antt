@@ -9,10 +9,12 @@ use Rattle.slice_laws.proofs.Slices.{sets-append}
 use Rattle.dial_code.proofs.Tests.{positive}
 use Rattle.code_entry.specs.Range.{rangeKeys}
 use Rattle.code_entry.specs.declared.CodeRange.{CodeRange}
-use Rattle.code_entry.proofs.EntryLaws.{Writable}
+use Rattle.code_entry.specs.Range.{Writable}
 use Rattle.code_cell.specs.Cell.{insertAll}
-use Rattle.code_cell.proofs.Inserts.{Below, Rising, below-more, below-append, rising-last, all-last}
-use Rattle.code_cell.proofs.RangeKeys.{keysFrom, range-keys, first-key, keys-rising, length-keys}
+use Rattle.code_cell.specs.Rising.{Below, Rising}
+use Rattle.code_cell.proofs.Inserts.{below-more, below-append, rising-last, all-last}
+use Rattle.code_entry.specs.Range.{keysFrom}
+use Rattle.code_cell.proofs.RangeKeys.{range-keys, first-key, keys-rising, length-keys}
 use Rattle.cell_keys.specs.Writing.{keyAt, Run}
 use Rattle.cell_keys.proofs.Merges.{together, only-new, take-split, ends-so, sets-own}
 

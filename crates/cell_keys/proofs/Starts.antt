@@ -18,7 +18,8 @@ use Rattle.code_entry.specs.declared.EntryRead.the-variants as entry
 use Rattle.code_entry.proofs.EntryLaws.{rest-drop}
 use Rattle.code_cell.specs.Cell.{insertAll, before, entriesOf, keysNamed, refusalOf, keysOf}
 use Rattle.code_cell.specs.Count.{goodRanges}
-use Rattle.code_cell.proofs.Inserts.{Rising, all-longer}
+use Rattle.code_cell.specs.Rising.{Rising}
+use Rattle.code_cell.proofs.Inserts.{all-longer}
 use Rattle.code_cell.proofs.Names.{later, namedAt, read-codes, refused-at, opened}
 use Rattle.code_cell.proofs.Decisions.{AllCaused, entries-caused}
 use Rattle.cell_keys.specs.Places.{Start, NoComma}

@@ -13,8 +13,10 @@ use lib.Seq.{sets, take-set-le, length-take-le}
 use Rattle.dial_code.specs.Key.{key}
 use Rattle.dial_code.proofs.CountedKeys.{sent-below}
 use Rattle.code_cell.specs.Cell.{insertAll}
-use Rattle.code_cell.proofs.Inserts.{Rising, length-last}
-use Rattle.code_cell.proofs.RangeKeys.{keysFrom, first-key, no-keys, length-keys}
+use Rattle.code_cell.specs.Rising.{Rising}
+use Rattle.code_cell.proofs.Inserts.{length-last}
+use Rattle.code_entry.specs.Range.{keysFrom}
+use Rattle.code_cell.proofs.RangeKeys.{first-key, no-keys, length-keys}
 use Rattle.cell_keys.specs.Writing.{keyAt, Run, same}
 use Rattle.cell_keys.proofs.Merges.{together, shorter, old-last, new-last, only-new, only-old, longer, sets-last, sets-own}
 

@@ -15,7 +15,8 @@ use Rattle.code_entry.specs.declared.Named.{Named}
 use Rattle.code_entry.specs.declared.Named.the-variants.{Codes, Refused}
 use Rattle.code_entry.specs.declared.EntryRead.the-variants as entry
 use Rattle.code_cell.specs.Cell.{insertAll, CellKeys, Keys, NoKeys, keysNamed, refusalOf, keysOf}
-use Rattle.code_cell.proofs.Inserts.{Rising, all-rising, all-longer}
+use Rattle.code_cell.specs.Rising.{Rising}
+use Rattle.code_cell.proofs.Inserts.{all-rising, all-longer}
 use Rattle.code_cell.proofs.Names.{later, namedAt, refused-at, opened, last-at, next-at}
 use Rattle.code_cell.proofs.Decisions.{Caused, read-caused}
 

@@ -10,7 +10,7 @@ use Rattle.code_entry.specs.Entry.{num, span}
 use Rattle.code_entry.specs.declared.Named.{Named}
 use Rattle.code_entry.specs.declared.Named.the-variants.{Codes, Refused}
 use Rattle.code_cell.specs.Cell.{namesOf}
-use Rattle.code_cell.proofs.Members.{holds}
+use Rattle.code_cell.specs.Rising.{holds}
 
 -- A refused entry names none.
 unfoldable pub named : List Named → ℕ → Bool

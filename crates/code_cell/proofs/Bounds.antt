@@ -15,8 +15,10 @@ use Rattle.code_entry.specs.declared.Named.the-variants.{Codes, Refused}
 use Rattle.code_cell.specs.Cell.{insert, insertAll}
 use Rattle.code_cell.specs.Count.{goodRanges, firstRefusal, allKeys, sameRange, added, boundOf, told, surveyOf, noRange}
 use Rattle.code_cell.specs.declared.Survey.{Survey}
-use Rattle.code_cell.proofs.Inserts.{Rising, insert-less, insert-same, insert-more, insert-longer, all-rising, above-less}
-use Rattle.code_cell.proofs.Members.{holds, holds-all, above-out, or-true, insert-length}
+use Rattle.code_cell.specs.Rising.{Rising}
+use Rattle.code_cell.proofs.Inserts.{insert-less, insert-same, insert-more, insert-longer, all-rising, above-less}
+use Rattle.code_cell.specs.Rising.{holds}
+use Rattle.code_cell.proofs.Members.{holds-all, above-out, or-true, insert-length}
 use Rattle.code_cell.proofs.RangeKeys.{range-keys, length-keys}
 
 -- Each key makes a list one longer at most.

@@ -14,7 +14,8 @@ use Rattle.dial_code.proofs.Tests.{below, equal, above, order}
 use Rattle.allowed_code.specs.Code.{isCode}
 use Rattle.code_entry.specs.Range.{rangeOf, rangeCodes, rangeKeys}
 use Rattle.code_entry.specs.Entry.{Typed, Single, Joined, Stray, typed, typedCodes, oneCode, codeRange, wholeRange, entryCodes, ownCode}
-use Rattle.code_entry.specs.Entry.{allCodes, mostCodes, isTyped, codeOf, entryOf, readEntry}
+use Rattle.code_entry.specs.Entry.{allCodes, isTyped, codeOf, entryOf, readEntry}
+use Rattle.code_entry.specs.Range.{mostCodes}
 use Rattle.code_entry.specs.declared.CodeRange.{CodeRange}
 use Rattle.code_entry.specs.declared.Named.{Named}
 use Rattle.code_entry.specs.declared.Named.the-variants.{Codes, Refused}

@@ -8,20 +8,7 @@ use borrow.Author.Tests.{lt-ltb, le-ltb, eq-eqb, ne-eqb}
 use lib.ListN.{length, length-append}
 use Rattle.dial_code.proofs.Tests.{below, equal, above, order}
 use Rattle.code_cell.specs.Cell.{insert, insertAll}
-
--- every key of a list is above one, or below one
-abbrev pub Above : ℕ → List ℕ → Type 0
-Above k [] = Unit
-Above k (x ∷ xs) = (k < x) × Above k xs
-
-abbrev pub Below : List ℕ → ℕ → Type 0
-Below [] k = Unit
-Below (x ∷ xs) k = (x < k) × Below xs k
-
--- each key above the ones before it
-abbrev pub Rising : List ℕ → Type 0
-Rising [] = Unit
-Rising (x ∷ xs) = Above x xs × Rising xs
+use Rattle.code_cell.specs.Rising.{Above, Below, Rising}
 
 -- The rule by how the key compares with the first.
 pub insert-less : (k x : ℕ) (xs : List ℕ) → k < x → insert k (x ∷ xs) ≡ k ∷ x ∷ xs

@@ -16,12 +16,15 @@ use Rattle.dial_code.proofs.DigitLaws.{length-digits, digits-are, value-digits}
 use Rattle.dial_code.proofs.KeyLaws.{key-injective}
 use Rattle.code_entry.specs.Range.{rangeKeys}
 use Rattle.code_entry.specs.declared.CodeRange.{CodeRange}
-use Rattle.code_entry.proofs.EntryLaws.{Writable}
+use Rattle.code_entry.specs.Range.{Writable}
 use Rattle.code_cell.specs.Cell.{insert, insertAll}
 use Rattle.code_cell.specs.Count.{mark, lowOf, highOf, marksEnd, allKeys}
-use Rattle.code_cell.proofs.Inserts.{Rising, insert-rising}
-use Rattle.code_cell.proofs.RangeKeys.{keysFrom, range-keys, no-keys, first-key}
-use Rattle.code_cell.proofs.Members.{holds, holds-insert, holds-all, insert-length, or-false}
+use Rattle.code_cell.specs.Rising.{Rising}
+use Rattle.code_cell.proofs.Inserts.{insert-rising}
+use Rattle.code_entry.specs.Range.{keysFrom}
+use Rattle.code_cell.proofs.RangeKeys.{range-keys, no-keys, first-key}
+use Rattle.code_cell.specs.Rising.{holds}
+use Rattle.code_cell.proofs.Members.{holds-insert, holds-all, insert-length, or-false}
 
 -- A code of k digits.
 abbrev pub Code : ℕ → ℕ → Type 0

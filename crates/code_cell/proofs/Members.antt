@@ -9,12 +9,9 @@ use lib.Dec.{eqb, leb}
 use lib.ListN.{length}
 use Rattle.dial_code.proofs.Tests.{below, equal, above, order}
 use Rattle.code_cell.specs.Cell.{insert, insertAll}
-use Rattle.code_cell.proofs.Inserts.{Above, Rising, above-less, insert-less, insert-same, insert-more, insert-none, all-rising}
-
--- Whether a list holds a number.
-abbrev pub holds : ℕ → List ℕ → Bool
-holds j [] = false
-holds j (x ∷ xs) = eqb j x || holds j xs
+use Rattle.code_cell.specs.Rising.{holds}
+use Rattle.code_cell.specs.Rising.{Above, Rising}
+use Rattle.code_cell.proofs.Inserts.{above-less, insert-less, insert-same, insert-more, insert-none, all-rising}
 
 -- an alternative, one side known
 pub or-false : (a : Bool) → (a || false) ≡ a

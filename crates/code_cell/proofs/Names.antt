@@ -14,7 +14,8 @@ use Rattle.code_entry.specs.declared.Named.{Named}
 use Rattle.code_entry.specs.declared.Named.the-variants.{Codes, Refused}
 use Rattle.code_entry.specs.declared.EntryRead.{EntryRead}
 use Rattle.code_entry.specs.declared.EntryRead.the-variants as entry
-use Rattle.code_entry.proofs.EntryLaws.{Writable, writable, entry-size, rest-drop}
+use Rattle.code_entry.specs.Range.{Writable}
+use Rattle.code_entry.proofs.EntryLaws.{writable, entry-size, rest-drop}
 use Rattle.code_cell.specs.Cell.{before, entriesOf}
 
 -- The entries behind the first: those after its comma.

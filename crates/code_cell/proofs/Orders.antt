@@ -16,13 +16,15 @@ use Rattle.code_entry.specs.Range.{rangeKeys}
 use Rattle.code_entry.specs.declared.CodeRange.{CodeRange}
 use Rattle.code_entry.specs.declared.Named.{Named}
 use Rattle.code_entry.specs.declared.Named.the-variants.{Codes, Refused}
-use Rattle.code_entry.proofs.EntryLaws.{Writable}
+use Rattle.code_entry.specs.Range.{Writable}
 use Rattle.code_cell.specs.Cell.{insertAll, entriesOf, entryNames}
 use Rattle.code_cell.specs.Count.{goodRanges, allKeys, sameRange, added, boundOf, surveyOf, noRange, firstKey, lastKey, order, orderWith, ordered, noOrder}
 use Rattle.code_cell.specs.declared.Order.{Order}
 use Rattle.code_cell.specs.declared.Survey.{Survey}
-use Rattle.code_cell.proofs.Inserts.{Above, Below, Rising, above-less, below-more, below-append, above-append, all-last, all-first}
-use Rattle.code_cell.proofs.RangeKeys.{keysFrom, range-keys, first-key, last-key, keys-below, keys-rising, length-keys}
+use Rattle.code_cell.specs.Rising.{Above, Below, Rising}
+use Rattle.code_cell.proofs.Inserts.{above-less, below-more, below-append, above-append, all-last, all-first}
+use Rattle.code_entry.specs.Range.{keysFrom}
+use Rattle.code_cell.proofs.RangeKeys.{range-keys, first-key, last-key, keys-below, keys-rising, length-keys}
 use Rattle.code_cell.proofs.Marks.{AllWritable}
 use Rattle.code_cell.proofs.Refusals.{good-writable}
 

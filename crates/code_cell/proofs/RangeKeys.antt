@@ -10,13 +10,10 @@ use Rattle.dial_code.specs.Digits.{digits}
 use Rattle.dial_code.specs.Key.{key, keyFrom}
 use Rattle.dial_code.proofs.Tests.{below, equal, above, order}
 use Rattle.dial_code.proofs.CountedKeys.{last-place, next-weight}
-use Rattle.code_entry.specs.Range.{codesFrom, rangeKeys}
+use Rattle.code_entry.specs.Range.{codesFrom, keysFrom, rangeKeys}
 use Rattle.code_entry.specs.declared.CodeRange.{CodeRange}
-use Rattle.code_cell.proofs.Inserts.{Below, Rising, below-more, below-append, rising-append}
-
--- The keys of so many codes of k digits from a value on.
-abbrev pub keysFrom : ℕ → ℕ → ℕ → List ℕ
-keysFrom k v n = map key (codesFrom k v n)
+use Rattle.code_cell.specs.Rising.{Below, Rising}
+use Rattle.code_cell.proofs.Inserts.{below-more, below-append, rising-append}
 
 pub range-keys : (r : CodeRange) → rangeKeys r ≡ keysFrom (r .digits) (r .first) (r .count)
 unfolding rangeKeys

@@ -14,13 +14,15 @@ use Rattle.code_entry.specs.Entry.{entryCodes, ownCode}
 use Rattle.code_entry.specs.declared.CodeRange.{CodeRange}
 use Rattle.code_entry.specs.declared.Named.{Named}
 use Rattle.code_entry.specs.declared.Named.the-variants.{Codes, Refused}
-use Rattle.code_entry.proofs.EntryLaws.{Writable, writable, own-writable}
+use Rattle.code_entry.specs.Range.{Writable}
+use Rattle.code_entry.proofs.EntryLaws.{writable, own-writable}
 use Rattle.code_cell.specs.Cell.{insertAll, entriesOf, entryNames, isOwn, namesOf, keysNamed, cellKeys, CellKeys, Keys, NoKeys, refusalOf}
 use Rattle.code_cell.specs.Count.{goodRanges, firstRefusal, allKeys, boundOf, told, surveyOf, noRange, stretch, closer, closest}
 use Rattle.code_cell.specs.declared.Stretch.{Stretch}
 use Rattle.code_cell.specs.declared.Survey.{Survey}
 use Rattle.code_cell.proofs.Inserts.{all-into-none, all-none}
-use Rattle.code_cell.proofs.RangeKeys.{keysFrom, range-keys, no-keys, keys-rising, length-keys}
+use Rattle.code_entry.specs.Range.{keysFrom}
+use Rattle.code_cell.proofs.RangeKeys.{range-keys, no-keys, keys-rising, length-keys}
 use Rattle.code_cell.proofs.Marks.{AllWritable}
 use Rattle.code_cell.proofs.Scans.{left}
 use Rattle.code_cell.proofs.Decisions.{decision, decided, entries-caused}

@@ -10,11 +10,12 @@ use lib.Dec.{eqb, leb, ltb}
 use lib.ListN.{length}
 use Rattle.dial_code.proofs.Tests.{both, below, equal, above, order, same-test}
 use Rattle.code_entry.specs.declared.CodeRange.{CodeRange}
-use Rattle.code_entry.proofs.EntryLaws.{Writable}
+use Rattle.code_entry.specs.Range.{Writable}
 use Rattle.code_cell.specs.Count.{lowOf, highOf, marksEnd, stretch, closer, closest, allKeys}
 use Rattle.code_cell.specs.declared.Stretch.{Stretch}
-use Rattle.code_cell.proofs.Inserts.{Rising}
-use Rattle.code_cell.proofs.Members.{holds, from, from-all, from-gap, from-stretch, or-true, or-false, or-right}
+use Rattle.code_cell.specs.Rising.{Rising}
+use Rattle.code_cell.specs.Rising.{holds}
+use Rattle.code_cell.proofs.Members.{from, from-all, from-gap, from-stretch, or-true, or-false, or-right}
 use Rattle.code_cell.proofs.Marks.{AllWritable, Alike, allMarks, ranges-alike, isIn, covered, holds-covered, high-most}
 
 -- The tests of the rule, as the code makes them.

@@ -12,8 +12,9 @@ use Rattle.dial_code.specs.Digits.{every, isAscii, digitOf, digits, value}
 use Rattle.allowed_code.specs.Code.{isCode}
 use Rattle.dial_code.proofs.DigitLaws.{value-below, digits-value}
 use Rattle.dial_code.proofs.Tests.{both, and-left-true}
-use Rattle.code_entry.specs.Range.{rangeOf, codesFrom, rangeCodes}
-use Rattle.code_entry.specs.Entry.{after, entryOf, restOf, isNoComma, isSome, codeOf, isTyped, allCodes, mostCodes, Typed}
+use Rattle.code_entry.specs.Range.{rangeOf, codesFrom, rangeCodes, Writable}
+use Rattle.code_entry.specs.Entry.{after, entryOf, restOf, isNoComma, isSome, codeOf, isTyped, allCodes, Typed}
+use Rattle.code_entry.specs.Range.{mostCodes}
 use Rattle.code_entry.specs.Entry.{Single, Joined, Stray, typed, oneCode, wholeRange, codeRange, typedCodes, entryCodes}
 use Rattle.code_entry.specs.Entry.{ownCode}
 use Rattle.code_entry.specs.declared.CodeRange.{CodeRange}
@@ -21,15 +22,6 @@ use Rattle.code_entry.specs.declared.Named.{Named}
 use Rattle.code_entry.specs.declared.Named.the-variants.{Codes, Refused}
 use Rattle.code_entry.proofs.Scanning.{leading-most, drop-leading}
 use Rattle.code_entry.proofs.CodeTests.{code-facts, code-some}
-
--- What an entry names can be written: its codes have 1 to 15 digits, there is one at least and 1,000 at most, and all are values
--- of so many digits.
-pub record Writable (r : CodeRange) : Type 0 where
-  pub some : 1 ≤ r .digits
-  pub few : r .digits ≤ 15
-  pub least : 1 ≤ r .count
-  pub most : r .count ≤ 1000
-  pub within : r .first + r .count ≤ 10 ^ (r .digits)
 
 -- a test that must have held, and what it let through
 shows : (t : Bool) (x : Named) (e : ℕ) {r : CodeRange} → cond t x (Refused e) ≡ Codes r → (t ≡ true) × (x ≡ Codes r)

@@ -8,7 +8,7 @@ use lib.ListN.{length, replicate}
 use Rattle.refusal.specs.Refusal.{entryNotAllowed, rangeNotAllowed}
 use Rattle.dial_code.specs.Digits.{every, isAscii, digitOf, digits, value}
 use Rattle.allowed_code.specs.Code.{isCode}
-use Rattle.code_entry.specs.Range.{rangeOf, rangeCodes}
+use Rattle.code_entry.specs.Range.{rangeOf, rangeCodes, mostCodes}
 use Rattle.code_entry.specs.declared.CodeRange.{CodeRange}
 use Rattle.code_entry.specs.declared.EntryRead.{EntryRead}
 use Rattle.code_entry.specs.declared.EntryRead.the-variants as entry
@@ -30,10 +30,6 @@ isBlank b = eqb b blank
 
 abbrev pub isNoComma : ℕ → Bool
 isNoComma b = not (eqb b comma)
-
--- a range has at most so many codes
-abbrev pub mostCodes : ℕ
-mostCodes = 1000
 
 -- The first bytes that pass a test, up to one that does not, and the bytes from that one on.
 unfoldable pub leading : (ℕ → Bool) → List ℕ → List ℕ

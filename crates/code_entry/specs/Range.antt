@@ -1,8 +1,8 @@
 -- A range of codes: its ends and all codes of their length between (document 02, request 1).
 use mathlib.Core.Path.{_≡_, refl}
 use mathlib.Core.List.{List, [], _∷_, map}
-use Prim.Native.Nat.{ℕ, zero, suc, _+_}
-use Rattle.dial_code.specs.Digits.{digits}
+use Prim.Native.Nat.{ℕ, zero, suc, _+_, _^_, _≤_}
+use Rattle.dial_code.specs.Digits.{mostDigits, digits}
 use Rattle.dial_code.specs.Key.{key}
 use Rattle.code_entry.specs.declared.CodeRange.{CodeRange}
 
@@ -23,6 +23,22 @@ rangeCodes r = codesFrom (r .digits) (r .first) (r .count)
 unfoldable pub rangeKeys : CodeRange → List ℕ
 unfolding rangeCodes key
 rangeKeys r = map key (rangeCodes r)
+
+-- The keys of so many codes of k digits from a value on.
+abbrev pub keysFrom : ℕ → ℕ → ℕ → List ℕ
+keysFrom k v n = map key (codesFrom k v n)
+
+-- a range has at most so many codes
+abbrev pub mostCodes : ℕ
+mostCodes = 1000
+
+-- A range that can be written: of 1 to 15 digits, with one code at least and 1,000 at most, all of them values of so many digits.
+pub record Writable (r : CodeRange) : Type 0 where
+  pub some : 1 ≤ r .digits
+  pub few : r .digits ≤ mostDigits
+  pub least : 1 ≤ r .count
+  pub most : r .count ≤ mostCodes
+  pub within : r .first + r .count ≤ 10 ^ (r .digits)
 
 -- 2137 and 2138; 098 to 101; one code; none
 ranges :

@@ -6,8 +6,8 @@ use mathlib.Core.List.{List, []}
 use Prim.Native.Nat.{ℕ}
 use Rattle.dial_code.specs.Digits.{every, isAscii}
 use Rattle.code_cell.specs.Cell.{Keys, isOwn, namesOf, cellKeys, entryKeys, keysOf}
-use Rattle.code_cell.proofs.Inserts.{Rising}
-use Rattle.code_cell.proofs.Members.{holds}
+use Rattle.code_cell.specs.Rising.{Rising}
+use Rattle.code_cell.specs.Rising.{holds}
 use Rattle.cell_laws.specs.Names.{named}
 use Rattle.cell_laws.specs.Entries.{byEntries}
 use Rattle.cell_laws.specs.Prefixed.{beforeCodes}

@@ -18,7 +18,8 @@ use Rattle.cell_keys.proofs.fill.Reads as fill-reads
 use Rattle.cell_keys.proofs.key_of.Reads as key-of-reads
 use Rattle.cell_keys.proofs.merge.Reads as merge-reads
 use Rattle.code_cell.specs.Cell.{insertAll}
-use Rattle.code_cell.proofs.RangeKeys.{keysFrom, length-keys}
+use Rattle.code_entry.specs.Range.{keysFrom}
+use Rattle.code_cell.proofs.RangeKeys.{length-keys}
 use Rattle.cell_keys.proofs.Puts.{run-of, run-one, put-so, first-put, put-above, above-length, above-words}
 use Rattle.cell_keys.proofs.Turns.{value-most}
 use lib.Seq.{sets}

@@ -23,7 +23,7 @@ use Rattle.code_cell.proofs.Names.{part-read, namedAt, refused-at, ends
 use Rattle.code_cell.proofs.Bounds.{look-refused, look-next, look-end}
 use Rattle.code_cell.specs.Count.{told}
 use Rattle.code_entry.specs.declared.CodeRange.{CodeRange}
-use Rattle.code_entry.proofs.EntryLaws.{Writable}
+use Rattle.code_entry.specs.Range.{Writable}
 
 abbrev Inv-loop : tie.InvT-loop
 Inv-loop country cell room at₀ bound₀ before₀ at bound before =

@@ -18,7 +18,7 @@ use Rattle.code_entry.proofs.read_entry.Reads as read-entry-reads
 use mathlib.Core.List.{map}
 use Rattle.code_entry.specs.Entry.{readEntry}
 use Rattle.code_entry.specs.declared.EntryRead.the-variants as entry
-use Rattle.code_entry.proofs.EntryLaws.{Writable}
+use Rattle.code_entry.specs.Range.{Writable}
 use Rattle.code_cell.specs.Count.{marksEnd, stretch, goodRanges, closest}
 use Rattle.code_cell.specs.declared.Stretch.{Stretch}
 use Rattle.code_cell.proofs.Names.{part-read, namedAt, refused-at, ends-within, named-writable, last-at, next-at}
