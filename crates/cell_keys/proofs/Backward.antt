@@ -1,28 +1,25 @@
 -- A cell's entries from the last to the first: they name the same keys. Assumes nothing.
-use mathlib.Core.Path.{_≡_, refl, ap, ap₂, sym, subst, _∙_}
+-- Two rising lists that hold the same are the same.
+use mathlib.Core.Path.{_≡_, refl, ap, ap₂, sym, _∙_}
 use mathlib.Core.Bool.{Bool, true, false, false≢true, cond, not, _||_}
-use mathlib.Core.List.{List, [], _∷_, _++_, map}
-use Prim.Native.Nat.{ℕ, zero, suc, _+_, _-_, _≤_, _<_}
+use mathlib.Core.List.{List, [], _∷_, _++_}
+use Prim.Native.Nat.{ℕ, _+_, _-_, _≤_}
 use native.Mathlib.Omega.{arith}
-use borrow.Author.Tests.{eq-eqb, ne-eqb, ltb-true, ltb-false, eqb-true, eqb-false}
+use borrow.Author.Tests.{eq-eqb, ne-eqb, ltb-false, eqb-true, eqb-false}
 use lib.Dec.{eqb, ltb}
-use lib.ListN.{length, getD, drop, length-drop}
-use lib.Seq.{getD-drop, drop-drop, drop-cons}
+use lib.ListN.{length}
 use Rattle.dial_code.proofs.Tests.{below, equal, above, order}
 use Rattle.code_entry.specs.Range.{rangeKeys}
-use Rattle.code_entry.specs.Entry.{comma, isNoComma, leading, entryOf, restOf, entryCodes}
 use Rattle.code_entry.specs.declared.CodeRange.{CodeRange}
 use Rattle.code_entry.specs.declared.Named.{Named}
 use Rattle.code_entry.specs.declared.Named.the-variants.{Codes, Refused}
-use Rattle.code_cell.specs.Cell.{insert, insertAll, before, entriesOf, CellKeys, Keys, NoKeys, keysNamed, refusalOf, keysOf}
+use Rattle.code_cell.specs.Cell.{insertAll, Keys, NoKeys, keysNamed, refusalOf, keysOf}
 use Rattle.code_cell.specs.Count.{goodRanges, firstRefusal, allKeys}
-use Rattle.code_cell.specs.Rising.{Above, Rising}
+use Rattle.code_cell.specs.Rising.{Above, Rising, holds}
 use Rattle.code_cell.proofs.Inserts.{all-rising, all-longer, above-less}
-use Rattle.code_cell.specs.Rising.{holds}
-use Rattle.code_cell.proofs.Members.{holds-all, above-out, or-false, or-assoc}
-use Rattle.code_cell.proofs.Decisions.{Caused, AllCaused, decision, decided}
+use Rattle.code_cell.proofs.Members.{holds-all, above-out, or-false}
+use Rattle.code_cell.proofs.Decisions.{AllCaused, decision, decided}
 
--- Two rising lists that hold the same are the same.
 first-held : (x : ℕ) (xs : List ℕ) → holds x (x ∷ xs) ≡ true
 first-held x xs = rw (eq-eqb x x refl)
 

@@ -1,4 +1,6 @@
 -- The laws of the keys' writing.
+
+
 pub mod Steps
 pub mod Merges
 pub mod Turns

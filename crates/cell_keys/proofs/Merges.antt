@@ -1,21 +1,20 @@
 -- A range's keys and the rising keys at the front of a slice, taken together from their ends. Assumes nothing.
-use mathlib.Core.Path.{_≡_, refl, ap, sym, subst, _∙_}
+-- The keys of the first q codes of a run, and the first p words of a slice, together.
+use mathlib.Core.Path.{_≡_, ap, sym, subst, _∙_}
 use mathlib.Core.List.{List, [], _∷_, _++_}
-use Prim.Native.Nat.{ℕ, zero, suc, _+_, _-_, _^_, _≤_, _<_}
+use Prim.Native.Nat.{ℕ, zero, suc, _+_, _-_, _≤_, _<_}
 use native.Mathlib.Omega.{arith}
 use borrow.Author.Tests.{eq-eqb, ne-eqb}
-use lib.ListN.{length, getD, take, drop, set, length-set, take-append-drop}
-use lib.Seq.{sets, sets-eq, set-comm, take-suc, take-set-le, length-take-le}
+use lib.ListN.{length, getD, take, set, take-append-drop}
+use lib.Seq.{sets, sets-eq, set-comm, take-suc, length-take-le}
 use Rattle.dial_code.proofs.Tests.{below, equal, above, order}
 use Rattle.code_cell.specs.Cell.{insertAll}
 use Rattle.code_cell.specs.Rising.{Below, Rising}
-use Rattle.code_cell.proofs.Inserts.{all-before, all-longer, all-none, all-into-none, last-new, last-both}
-use Rattle.code_cell.proofs.Inserts.{below-more, below-append, rising-last, length-last}
+use Rattle.code_cell.proofs.Inserts.{all-before, all-longer, all-none, all-into-none, last-new, last-both, below-more, below-append, rising-last}
 use Rattle.code_entry.specs.Range.{keysFrom}
-use Rattle.code_cell.proofs.RangeKeys.{last-key, no-keys, keys-below, keys-rising, length-keys}
+use Rattle.code_cell.proofs.RangeKeys.{last-key, no-keys, keys-below, keys-rising}
 use Rattle.cell_keys.specs.Writing.{keyAt, Run, same}
 
--- The keys of the first q codes of a run, and the first p words of a slice, together.
 abbrev pub together : ℕ → ℕ → ℕ → ℕ → List ℕ → List ℕ
 together d f q p l = insertAll (keysFrom d f q) (take p l)
 

@@ -1,26 +1,21 @@
 -- One entry's keys by themselves, and the answers to a cell that is refused. Assumes nothing.
 use mathlib.Core.Path.{_≡_, refl, ap, sym, _∙_}
-use mathlib.Core.Bool.{Bool, true, false, cond}
 use mathlib.Core.List.{List, [], _∷_}
-use Prim.Native.Nat.{ℕ, _+_, _-_, _≤_, _<_}
+use Prim.Native.Nat.{ℕ, _-_, _≤_, _<_}
 use native.Mathlib.Omega.{arith}
 use borrow.Author.Tests.{lt-ltb, le-ltb}
-use lib.Dec.{ltb}
 use lib.ListN.{length, drop, length-drop}
-use lib.Seq.{sets}
 use Rattle.refusal.specs.Refusal.{keysTooMany}
 use Rattle.dial_code.proofs.Tests.{below, equal, above, order}
-use Rattle.code_entry.specs.Range.{rangeKeys}
-use Rattle.code_entry.specs.Entry.{entryOf, restOf, entryCodes, readEntry}
+use Rattle.code_entry.specs.Range.{rangeKeys, Writable, keysFrom}
+use Rattle.code_entry.specs.Entry.{entryOf, restOf, readEntry}
 use Rattle.code_entry.specs.declared.CodeRange.{CodeRange}
 use Rattle.code_entry.specs.declared.Named.{Named}
 use Rattle.code_entry.specs.declared.Named.the-variants.{Codes, Refused}
 use Rattle.code_entry.specs.declared.EntryRead.the-variants as entry
-use Rattle.code_entry.specs.Range.{Writable}
 use Rattle.code_entry.proofs.EntryLaws.{writable, entry-size, rest-drop}
 use Rattle.code_cell.specs.Cell.{insertAll, CellKeys, Keys, NoKeys, keysNamed, entryKeys, refusalOf, keysOf}
 use Rattle.code_cell.proofs.Inserts.{all-into-none}
-use Rattle.code_entry.specs.Range.{keysFrom}
 use Rattle.code_cell.proofs.RangeKeys.{range-keys, keys-rising, length-keys}
 use Rattle.code_cell.proofs.Names.{read-codes, read-refused}
 use Rattle.cell_keys.specs.Answers.{restAfter}

@@ -1,24 +1,22 @@
 -- A range put to the rising keys at the front of a slice. Assumes nothing.
+-- What an entry names can be written.
 use mathlib.Core.Path.{_≡_, refl, ap, sym, subst, _∙_}
-use mathlib.Core.List.{List, [], _∷_, _++_}
+use mathlib.Core.List.{List, _∷_, _++_}
 use Prim.Native.Nat.{ℕ, suc, _+_, _-_, _≤_, _<_}
 use native.Mathlib.Omega.{arith}
 use lib.ListN.{length, getD, take, length-append}
 use lib.Seq.{sets, length-take-le}
 use Rattle.slice_laws.proofs.Slices.{sets-append}
 use Rattle.dial_code.proofs.Tests.{positive}
-use Rattle.code_entry.specs.Range.{rangeKeys}
+use Rattle.code_entry.specs.Range.{rangeKeys, Writable, keysFrom}
 use Rattle.code_entry.specs.declared.CodeRange.{CodeRange}
-use Rattle.code_entry.specs.Range.{Writable}
 use Rattle.code_cell.specs.Cell.{insertAll}
 use Rattle.code_cell.specs.Rising.{Below, Rising}
-use Rattle.code_cell.proofs.Inserts.{below-more, below-append, rising-last, all-last}
-use Rattle.code_entry.specs.Range.{keysFrom}
+use Rattle.code_cell.proofs.Inserts.{below-more, below-append, all-last}
 use Rattle.code_cell.proofs.RangeKeys.{range-keys, first-key, keys-rising, length-keys}
 use Rattle.cell_keys.specs.Writing.{keyAt, Run}
 use Rattle.cell_keys.proofs.Merges.{together, only-new, take-split, ends-so, sets-own}
 
--- What an entry names can be written.
 pub run-of : (r : CodeRange) → Writable r → Run (r .digits) (r .first) (r .count)
 run-of r w = (w .some, w .few, w .least, w .within)
 

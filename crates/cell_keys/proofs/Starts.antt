@@ -10,7 +10,7 @@ use lib.ListN.{length, getD, take, drop, length-drop}
 use lib.Seq.{sets, length-sets, getD-drop, drop-drop, drop-cons, drop-length}
 use Rattle.dial_code.proofs.Tests.{below, equal, above, order}
 use Rattle.code_entry.specs.Range.{rangeKeys}
-use Rattle.code_entry.specs.Entry.{comma, isNoComma, leading, entryOf, restOf, entryCodes, readEntry}
+use Rattle.code_entry.specs.Entry.{comma, isNoComma, leading, entryOf, entryCodes, readEntry}
 use Rattle.code_entry.specs.declared.CodeRange.{CodeRange}
 use Rattle.code_entry.specs.declared.Named.{Named}
 use Rattle.code_entry.specs.declared.Named.the-variants.{Codes, Refused}
@@ -20,8 +20,8 @@ use Rattle.code_cell.specs.Cell.{insertAll, before, entriesOf, keysNamed, refus
 use Rattle.code_cell.specs.Count.{goodRanges}
 use Rattle.code_cell.specs.Rising.{Rising}
 use Rattle.code_cell.proofs.Inserts.{all-longer}
-use Rattle.code_cell.proofs.Names.{later, namedAt, read-codes, refused-at, opened}
-use Rattle.code_cell.proofs.Decisions.{AllCaused, entries-caused}
+use Rattle.code_cell.proofs.Names.{later, namedAt, refused-at, opened}
+use Rattle.code_cell.proofs.Decisions.{entries-caused}
 use Rattle.cell_keys.specs.Places.{Start, NoComma}
 use Rattle.cell_keys.proofs.Writes.{take-front, sets-over}
 use Rattle.cell_keys.proofs.Backward.{backKeys, back-rising, AllGood, good-suffix, suffix-shorter, Good, good}

@@ -1,6 +1,7 @@
 -- From the key of a code to that of the next: one 9 after the other goes to 0. Assumes nothing.
-use mathlib.Core.Path.{_≡_, refl, ap, sym, _∙_}
-use Prim.Native.Nat.{ℕ, zero, suc, _+_, _-_, _*_, _/_, _%_, _^_, _≤_, _<_}
+-- A code of a run has its key.
+use mathlib.Core.Path.{_≡_}
+use Prim.Native.Nat.{ℕ, _+_, _-_, _*_, _/_, _%_, _^_, _≤_, _<_}
 use native.Mathlib.Nat.{one-le-pow}
 use native.Mathlib.Omega.{arith}
 use lib.Dec.{lit<}
@@ -9,7 +10,6 @@ use Rattle.dial_code.proofs.CountedKeys.{next-weight, weight-most, key-so}
 use Rattle.code_cell.proofs.RangeKeys.{no-carry, carry, carried}
 use Rattle.cell_keys.specs.Writing.{keyAt, Run}
 
--- A code of a run has its key.
 pub keyed : (k v : ℕ) → Run k v 1 → keyOrZero k v ≡ keyAt k v
 keyed k v r = key-so k v (r .0) (r .1) (omega (arith, r .3))
 

@@ -1,11 +1,11 @@
 -- The turns of the loops over a range's keys: filling, counting, merging. Each keeps that what is left to do, done now, gives what
 -- is asked for. Assumes nothing.
-use mathlib.Core.Path.{_≡_, refl, ap, sym, subst, _∙_}
+-- Keys and values of a run fit a word.
+use mathlib.Core.Path.{_≡_, ap, sym, subst, _∙_}
 use mathlib.Core.Bool.{Bool, true, false, cond}
 use mathlib.Core.List.{List, [], _∷_, _++_}
-use Prim.Native.Nat.{ℕ, zero, suc, _+_, _-_, _*_, _^_, _≤_, _<_}
+use Prim.Native.Nat.{ℕ, suc, _+_, _-_, _^_, _≤_, _<_}
 use native.Mathlib.Nat.{pow-le-pow-right}
-use native.Mathlib.Numerals.{add-one}
 use native.Mathlib.Omega.{arith}
 use lib.Dec.{eqb, lit<}
 use lib.ListN.{length, getD, take, set, length-set}
@@ -18,9 +18,8 @@ use Rattle.code_cell.proofs.Inserts.{length-last}
 use Rattle.code_entry.specs.Range.{keysFrom}
 use Rattle.code_cell.proofs.RangeKeys.{first-key, no-keys, length-keys}
 use Rattle.cell_keys.specs.Writing.{keyAt, Run, same}
-use Rattle.cell_keys.proofs.Merges.{together, shorter, old-last, new-last, only-new, only-old, longer, sets-last, sets-own}
+use Rattle.cell_keys.proofs.Merges.{together, old-last, new-last, only-new, only-old, longer, sets-last, sets-own}
 
--- Keys and values of a run fit a word.
 pub key-most : (d v : ℕ) → d ≤ 15 → keyAt d v < 11 ^ 15
 unfolding key
 key-most d v h = sent-below d v h

@@ -1,10 +1,11 @@
 -- The keys of a cell's entries, written one entry after the other. Assumes nothing.
+-- Words stored at the front of a slice, read back, and stored over by more.
 use mathlib.Core.Path.{_≡_, refl, ap, sym, subst, _∙_}
 use mathlib.Core.Bool.{Bool, true, false, cond}
 use mathlib.Core.List.{List, [], _∷_, _++_, map}
-use Prim.Native.Nat.{ℕ, suc, _+_, _-_, _≤_, _<_}
+use Prim.Native.Nat.{ℕ, _+_, _-_, _≤_, _<_}
 use native.Mathlib.Omega.{arith}
-use borrow.Author.Tests.{ltb-true, ltb-false}
+use borrow.Author.Tests.{ltb-false}
 use lib.Dec.{ltb}
 use lib.ListN.{length, take, drop}
 use lib.Seq.{sets, sets-eq, length-sets, take-append-seam, drop-append-add, drop-drop}
@@ -14,13 +15,12 @@ use Rattle.code_entry.specs.declared.CodeRange.{CodeRange}
 use Rattle.code_entry.specs.declared.Named.{Named}
 use Rattle.code_entry.specs.declared.Named.the-variants.{Codes, Refused}
 use Rattle.code_entry.specs.declared.EntryRead.the-variants as entry
-use Rattle.code_cell.specs.Cell.{insertAll, CellKeys, Keys, NoKeys, keysNamed, refusalOf, keysOf}
+use Rattle.code_cell.specs.Cell.{insertAll, Keys, NoKeys, keysNamed, refusalOf, keysOf}
 use Rattle.code_cell.specs.Rising.{Rising}
 use Rattle.code_cell.proofs.Inserts.{all-rising, all-longer}
 use Rattle.code_cell.proofs.Names.{later, namedAt, refused-at, opened, last-at, next-at}
 use Rattle.code_cell.proofs.Decisions.{Caused, read-caused}
 
--- Words stored at the front of a slice, read back, and stored over by more.
 sets-front : (l k : List ℕ) → length l ≤ length k → sets k 0 l ≡ l ++ drop (length l) k
 sets-front l k h =
     let z : 0 + length l ≡ length l = omega arith in

@@ -1,10 +1,11 @@
 -- The bound of a first look: where it is in the room, the distinct codes are. Assumes nothing.
-use mathlib.Core.Path.{_≡_, refl, ap, ap₂, sym, _∙_}
-use mathlib.Core.Bool.{Bool, true, false, false≢true, cond, _&&_, _||_}
+-- Each key makes a list one longer at most.
+use mathlib.Core.Path.{_≡_, refl, ap, sym, _∙_}
+use mathlib.Core.Bool.{Bool, true, false, false≢true, cond}
 use mathlib.Core.List.{List, [], _∷_}
-use Prim.Native.Nat.{ℕ, suc, _+_, _≤_, _<_}
+use Prim.Native.Nat.{ℕ, suc, _+_, _≤_}
 use native.Mathlib.Omega.{arith}
-use borrow.Author.Tests.{lt-ltb, le-ltb, eq-eqb, eqb-true, ne-eqb, ltb-true, ltb-false}
+use borrow.Author.Tests.{le-ltb, eq-eqb, eqb-true, ne-eqb}
 use lib.Dec.{eqb, ltb}
 use lib.ListN.{length}
 use Rattle.dial_code.proofs.Tests.{both, below, equal, above, order}
@@ -13,15 +14,12 @@ use Rattle.code_entry.specs.declared.CodeRange.{CodeRange}
 use Rattle.code_entry.specs.declared.Named.{Named}
 use Rattle.code_entry.specs.declared.Named.the-variants.{Codes, Refused}
 use Rattle.code_cell.specs.Cell.{insert, insertAll}
-use Rattle.code_cell.specs.Count.{goodRanges, firstRefusal, allKeys, sameRange, added, boundOf, told, surveyOf, noRange}
-use Rattle.code_cell.specs.declared.Survey.{Survey}
-use Rattle.code_cell.specs.Rising.{Rising}
-use Rattle.code_cell.proofs.Inserts.{insert-less, insert-same, insert-more, insert-longer, all-rising, above-less}
-use Rattle.code_cell.specs.Rising.{holds}
+use Rattle.code_cell.specs.Count.{goodRanges, allKeys, sameRange, added, boundOf, told, surveyOf}
+use Rattle.code_cell.specs.Rising.{Rising, holds}
+use Rattle.code_cell.proofs.Inserts.{insert-same, insert-more, all-rising, above-less}
 use Rattle.code_cell.proofs.Members.{holds-all, above-out, or-true, insert-length}
 use Rattle.code_cell.proofs.RangeKeys.{range-keys, length-keys}
 
--- Each key makes a list one longer at most.
 all-most : (ks l : List ℕ) → Rising l → length (insertAll ks l) ≤ length ks + length l
 unfolding insertAll
 all-most [] l r = omega arith

@@ -1,9 +1,10 @@
 -- What a cell is refused for: 52 where the keys of the entries before the first refused one are too many, else that one's cause.
 -- Assumes nothing.
+-- A refusal has a number.
 use mathlib.Core.Path.{_≡_, subst}
 use mathlib.Core.Bool.{Bool, true, false, cond, _&&_}
 use mathlib.Core.List.{List, [], _∷_, map}
-use Prim.Native.Nat.{ℕ, suc, _+_, _-_, _≤_, _<_}
+use Prim.Native.Nat.{ℕ, _+_, _-_, _≤_, _<_}
 use native.Mathlib.Omega.{arith}
 use borrow.Author.Tests.{lt-ltb, le-ltb, ne-eqb}
 use lib.Dec.{eqb, leb, ltb, lit<}
@@ -12,10 +13,8 @@ use Rattle.refusal.specs.Refusal.{entryNotAllowed, rangeNotAllowed, keysTooMany
 use Rattle.dial_code.specs.Digits.{every, isAscii, digitOf, value}
 use Rattle.dial_code.proofs.Tests.{below, equal, above, order}
 use Rattle.allowed_code.specs.Code.{isCode}
-use Rattle.code_entry.specs.Range.{rangeOf, rangeCodes, rangeKeys}
-use Rattle.code_entry.specs.Entry.{Typed, Single, Joined, Stray, typed, typedCodes, oneCode, codeRange, wholeRange, entryCodes, ownCode}
-use Rattle.code_entry.specs.Entry.{allCodes, isTyped, codeOf, entryOf, readEntry}
-use Rattle.code_entry.specs.Range.{mostCodes}
+use Rattle.code_entry.specs.Range.{rangeOf, rangeCodes, rangeKeys, mostCodes}
+use Rattle.code_entry.specs.Entry.{Typed, Single, Joined, Stray, typed, typedCodes, oneCode, codeRange, wholeRange, entryCodes, ownCode, allCodes, isTyped, codeOf, entryOf, readEntry}
 use Rattle.code_entry.specs.declared.CodeRange.{CodeRange}
 use Rattle.code_entry.specs.declared.Named.{Named}
 use Rattle.code_entry.specs.declared.Named.the-variants.{Codes, Refused}
@@ -25,7 +24,6 @@ use Rattle.code_cell.specs.Count.{goodRanges, firstRefusal, allKeys}
 use Rattle.code_cell.proofs.Inserts.{all-longer}
 use Rattle.code_cell.proofs.Names.{read-refused}
 
--- A refusal has a number.
 abbrev pub Caused : Named → Type 0
 Caused (Codes r) = Unit
 Caused (Refused e) = 0 < e

@@ -1,8 +1,9 @@
 -- Keys put into a rising list: it stays rising and loses none; at its end a key above all is appended, and keys below the last
 -- leave it the last. Assumes nothing.
+-- The rule by how the key compares with the first.
 use mathlib.Core.Path.{_≡_, refl, ap, sym, _∙_}
 use mathlib.Core.List.{List, [], _∷_, _++_, append-nil}
-use Prim.Native.Nat.{ℕ, suc, _+_, _≤_, _<_}
+use Prim.Native.Nat.{ℕ, _+_, _≤_, _<_}
 use native.Mathlib.Omega.{arith}
 use borrow.Author.Tests.{lt-ltb, le-ltb, eq-eqb, ne-eqb}
 use lib.ListN.{length, length-append}
@@ -10,7 +11,6 @@ use Rattle.dial_code.proofs.Tests.{below, equal, above, order}
 use Rattle.code_cell.specs.Cell.{insert, insertAll}
 use Rattle.code_cell.specs.Rising.{Above, Below, Rising}
 
--- The rule by how the key compares with the first.
 pub insert-less : (k x : ℕ) (xs : List ℕ) → k < x → insert k (x ∷ xs) ≡ k ∷ x ∷ xs
 unfolding insert
 insert-less k x xs h = rw (lt-ltb k x h)

@@ -1,4 +1,6 @@
 -- The laws of rising keys and of cells.
+
+
 pub mod Inserts
 pub mod RangeKeys
 pub mod Members

@@ -1,24 +1,24 @@
 -- The tests of the code, one at a time: blanks, a range that stands twice, a stretch that starts first. Assumes nothing.
+-- All blanks from a place on.
 use mathlib.Core.Path.{_≡_, refl, ap, ap₂, sym, _∙_}
-use mathlib.Core.Bool.{Bool, true, false, cond, _&&_}
+use mathlib.Core.Bool.{Bool, true, false, cond}
 use mathlib.Core.List.{List, [], _∷_}
-use Prim.Native.Nat.{ℕ, suc, _+_, _-_, _^_, _≤_, _<_, min, max}
+use Prim.Native.Nat.{ℕ, _+_, _-_, _^_, _≤_, _<_, min, max}
 use native.Mathlib.Omega.{arith}
 use native.Mathlib.Numerals.{add-one}
 use borrow.Author.Tests.{lt-ltb, le-ltb, ltb-false, eq-eqb, ne-eqb}
-use lib.Dec.{eqb, leb, ltb}
+use lib.Dec.{eqb, ltb}
 use lib.ListN.{length, getD, drop, drop-of-length-le}
 use lib.Seq.{drop-cons}
 use Rattle.dial_code.specs.Digits.{every}
 use Rattle.dial_code.proofs.CountedKeys.{few-tens}
-use Rattle.code_entry.specs.Entry.{blank, isBlank, isSome}
+use Rattle.code_entry.specs.Entry.{blank, isBlank}
 use Rattle.code_entry.specs.declared.CodeRange.{CodeRange}
 use Rattle.code_cell.specs.Cell.{isOwn}
-use Rattle.code_cell.specs.Count.{lowOf, highOf, stretch, sameRange, added, closer}
+use Rattle.code_cell.specs.Count.{lowOf, stretch, sameRange, added, closer}
 use Rattle.code_cell.specs.declared.Stretch.{Stretch}
 use Rattle.code_cell.proofs.Scans.{passed, not-closer, is-closer}
 
--- All blanks from a place on.
 module _ (s : List ℕ) (at : ℕ) where
   pub blank-next : at < length s → getD s at 0 ≡ blank → every isBlank (drop at s) ≡ every isBlank (drop (at + 1) s)
   blank-next h e =

@@ -1,9 +1,10 @@
 -- Codes and their numbers: distinct codes have distinct keys and distinct numbers, so as many keys as numbers come together.
 -- Assumes nothing.
+-- A code of k digits.
 use mathlib.Core.Path.{_≡_, refl, ap, ap₂, sym, _∙_}
 use mathlib.Core.Bool.{Bool, true, false, cond, _&&_, _||_}
-use mathlib.Core.List.{List, [], _∷_, _++_}
-use Prim.Native.Nat.{ℕ, zero, suc, _+_, _*_, _^_, _≤_, _<_}
+use mathlib.Core.List.{List, [], _∷_}
+use Prim.Native.Nat.{ℕ, zero, suc, _+_, _^_, _≤_, _<_}
 use native.Mathlib.Nat.{pow-suc, pow-le-pow-right}
 use native.Mathlib.Omega.{arith}
 use borrow.Author.Tests.{eq-eqb, ne-eqb, le-leb, lt-leb, lt-ltb, le-ltb}
@@ -14,19 +15,15 @@ use Rattle.dial_code.specs.Key.{key}
 use Rattle.dial_code.proofs.Tests.{below, equal, above, order, same-eqb}
 use Rattle.dial_code.proofs.DigitLaws.{length-digits, digits-are, value-digits}
 use Rattle.dial_code.proofs.KeyLaws.{key-injective}
-use Rattle.code_entry.specs.Range.{rangeKeys}
+use Rattle.code_entry.specs.Range.{Writable, keysFrom}
 use Rattle.code_entry.specs.declared.CodeRange.{CodeRange}
-use Rattle.code_entry.specs.Range.{Writable}
 use Rattle.code_cell.specs.Cell.{insert, insertAll}
 use Rattle.code_cell.specs.Count.{mark, lowOf, highOf, marksEnd, allKeys}
-use Rattle.code_cell.specs.Rising.{Rising}
+use Rattle.code_cell.specs.Rising.{Rising, holds}
 use Rattle.code_cell.proofs.Inserts.{insert-rising}
-use Rattle.code_entry.specs.Range.{keysFrom}
 use Rattle.code_cell.proofs.RangeKeys.{range-keys, no-keys, first-key}
-use Rattle.code_cell.specs.Rising.{holds}
 use Rattle.code_cell.proofs.Members.{holds-insert, holds-all, insert-length, or-false}
 
--- A code of k digits.
 abbrev pub Code : ℕ → ℕ → Type 0
 Code k v = (1 ≤ k) × (k ≤ 15) × (v < 10 ^ k)
 

@@ -1,19 +1,18 @@
 -- Which keys a rising list holds: what joins it, how long it gets, and how many it holds from a number on. Assumes nothing.
+-- an alternative, one side known
 use mathlib.Core.Path.{_≡_, refl, ap, sym, _∙_}
 use mathlib.Core.Bool.{Bool, true, false, false≢true, cond, _||_}
-use mathlib.Core.List.{List, [], _∷_, _++_}
+use mathlib.Core.List.{List, [], _∷_}
 use Prim.Native.Nat.{ℕ, zero, suc, _+_, _-_, _≤_, _<_}
 use native.Mathlib.Omega.{arith}
-use borrow.Author.Tests.{eq-eqb, ne-eqb, le-leb, lt-leb, eqb-true}
+use borrow.Author.Tests.{eq-eqb, ne-eqb, le-leb, lt-leb}
 use lib.Dec.{eqb, leb}
 use lib.ListN.{length}
 use Rattle.dial_code.proofs.Tests.{below, equal, above, order}
 use Rattle.code_cell.specs.Cell.{insert, insertAll}
-use Rattle.code_cell.specs.Rising.{holds}
-use Rattle.code_cell.specs.Rising.{Above, Rising}
-use Rattle.code_cell.proofs.Inserts.{above-less, insert-less, insert-same, insert-more, insert-none, all-rising}
+use Rattle.code_cell.specs.Rising.{holds, Above, Rising}
+use Rattle.code_cell.proofs.Inserts.{above-less, insert-less, insert-same, insert-more, insert-none}
 
--- an alternative, one side known
 pub or-false : (a : Bool) → (a || false) ≡ a
 or-false true = refl
 or-false false = refl

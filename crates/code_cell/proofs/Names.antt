@@ -1,12 +1,13 @@
 -- The entries of a cell, each read where the one before ended. Assumes nothing.
-use mathlib.Core.Path.{_≡_, refl, ap, sym, subst, _∙_}
+-- The entries behind the first: those after its comma.
+use mathlib.Core.Path.{_≡_, refl, ap, sym, _∙_}
 use mathlib.Core.Bool.{Bool, true, false, cond, not}
 use mathlib.Core.List.{List, [], _∷_, map}
-use Prim.Native.Nat.{ℕ, suc, _+_, _-_, _≤_, _<_}
+use Prim.Native.Nat.{ℕ, _+_, _-_, _≤_, _<_}
 use native.Mathlib.Omega.{arith}
 use lib.Dec.{eqb}
 use lib.ListN.{length, take, drop, length-drop, drop-of-length-le}
-use lib.Seq.{drop-drop, drop-length}
+use lib.Seq.{drop-drop}
 use Rattle.slice_laws.proofs.Slices.{rest}
 use Rattle.code_entry.specs.Entry.{comma, leading, after, entryOf, restOf, entryCodes, sized, readEntry}
 use Rattle.code_entry.specs.declared.CodeRange.{CodeRange}
@@ -18,7 +19,6 @@ use Rattle.code_entry.specs.Range.{Writable}
 use Rattle.code_entry.proofs.EntryLaws.{writable, entry-size, rest-drop}
 use Rattle.code_cell.specs.Cell.{before, entriesOf}
 
--- The entries behind the first: those after its comma.
 abbrev pub later : List ℕ → List (List ℕ)
 later [] = []
 later (b ∷ s) = entriesOf s

@@ -1,9 +1,10 @@
 -- Entries that rise, or fall, name no code twice, so that the bound of a first look is no more than the distinct codes. Assumes
 -- nothing.
+-- Each range above a key and the ones before it, and each below one.
 use mathlib.Core.Path.{_≡_, refl, ap, ap₂, sym, subst, _∙_}
 use mathlib.Core.Bool.{Bool, true, false, cond, _&&_, _||_}
 use mathlib.Core.List.{List, [], _∷_, _++_}
-use Prim.Native.Nat.{ℕ, zero, suc, _+_, _-_, _^_, _≤_, _<_}
+use Prim.Native.Nat.{ℕ, suc, _+_, _-_, _≤_, _<_}
 use native.Mathlib.Omega.{arith}
 use borrow.Author.Tests.{ltb-true}
 use lib.Dec.{ltb}
@@ -12,23 +13,20 @@ use Rattle.dial_code.specs.Digits.{digits}
 use Rattle.dial_code.specs.Key.{key, keysEnd, keyOrZero}
 use Rattle.dial_code.proofs.Tests.{both}
 use Rattle.dial_code.proofs.CountedKeys.{key-so}
-use Rattle.code_entry.specs.Range.{rangeKeys}
+use Rattle.code_entry.specs.Range.{rangeKeys, Writable, keysFrom}
 use Rattle.code_entry.specs.declared.CodeRange.{CodeRange}
 use Rattle.code_entry.specs.declared.Named.{Named}
 use Rattle.code_entry.specs.declared.Named.the-variants.{Codes, Refused}
-use Rattle.code_entry.specs.Range.{Writable}
 use Rattle.code_cell.specs.Cell.{insertAll, entriesOf, entryNames}
 use Rattle.code_cell.specs.Count.{goodRanges, allKeys, sameRange, added, boundOf, surveyOf, noRange, firstKey, lastKey, order, orderWith, ordered, noOrder}
 use Rattle.code_cell.specs.declared.Order.{Order}
 use Rattle.code_cell.specs.declared.Survey.{Survey}
 use Rattle.code_cell.specs.Rising.{Above, Below, Rising}
 use Rattle.code_cell.proofs.Inserts.{above-less, below-more, below-append, above-append, all-last, all-first}
-use Rattle.code_entry.specs.Range.{keysFrom}
 use Rattle.code_cell.proofs.RangeKeys.{range-keys, first-key, last-key, keys-below, keys-rising, length-keys}
 use Rattle.code_cell.proofs.Marks.{AllWritable}
 use Rattle.code_cell.proofs.Refusals.{good-writable}
 
--- Each range above a key and the ones before it, and each below one.
 abbrev rises : ℕ → List CodeRange → Bool
 rises k [] = true
 rises k (r ∷ rs) = ltb k (firstKey r) && rises (lastKey r) rs

@@ -1,13 +1,13 @@
 -- The keys of a range's codes, one after the other: how far each is from the one before, and that they rise. Assumes nothing.
-use mathlib.Core.Path.{_≡_, refl, ap, sym, subst, _∙_}
-use mathlib.Core.List.{List, [], _∷_, _++_, map}
+use mathlib.Core.Path.{_≡_, refl, ap, sym, subst}
+use mathlib.Core.List.{List, [], _∷_, _++_}
 use Prim.Native.Nat.{ℕ, zero, suc, _+_, _-_, _*_, _/_, _%_, _^_, _≤_, _<_}
 use native.Mathlib.Nat.{pow-suc, one-le-pow}
 use native.Mathlib.Omega.{arith}
 use lib.Dec.{lit<}
 use lib.ListN.{length}
 use Rattle.dial_code.specs.Digits.{digits}
-use Rattle.dial_code.specs.Key.{key, keyFrom}
+use Rattle.dial_code.specs.Key.{key}
 use Rattle.dial_code.proofs.Tests.{below, equal, above, order}
 use Rattle.dial_code.proofs.CountedKeys.{last-place, next-weight}
 use Rattle.code_entry.specs.Range.{codesFrom, keysFrom, rangeKeys}

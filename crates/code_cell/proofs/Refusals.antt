@@ -1,11 +1,12 @@
 -- What the passes over a cell show of its refusal. Assumes nothing.
+-- The first stretch, one entry after the other.
 use mathlib.Core.Path.{_≡_, refl, ap, sym, _∙_}
 use mathlib.Core.Bool.{Bool, true, false, cond}
 use mathlib.Core.List.{List, [], _∷_, map}
-use Prim.Native.Nat.{ℕ, suc, _+_, _-_, _≤_, _<_}
+use Prim.Native.Nat.{ℕ, _+_, _-_, _≤_, _<_}
 use native.Mathlib.Omega.{arith}
 use borrow.Author.Tests.{lt-ltb, le-ltb, le-leb, lt-leb, leb-true, eqb-true}
-use lib.Dec.{eqb, leb, ltb}
+use lib.Dec.{eqb, leb}
 use lib.ListN.{length}
 use Rattle.refusal.specs.Refusal.{keysTooMany}
 use Rattle.dial_code.proofs.Tests.{same-test, positive}
@@ -14,21 +15,18 @@ use Rattle.code_entry.specs.Entry.{entryCodes, ownCode}
 use Rattle.code_entry.specs.declared.CodeRange.{CodeRange}
 use Rattle.code_entry.specs.declared.Named.{Named}
 use Rattle.code_entry.specs.declared.Named.the-variants.{Codes, Refused}
-use Rattle.code_entry.specs.Range.{Writable}
 use Rattle.code_entry.proofs.EntryLaws.{writable, own-writable}
-use Rattle.code_cell.specs.Cell.{insertAll, entriesOf, entryNames, isOwn, namesOf, keysNamed, cellKeys, CellKeys, Keys, NoKeys, refusalOf}
-use Rattle.code_cell.specs.Count.{goodRanges, firstRefusal, allKeys, boundOf, told, surveyOf, noRange, stretch, closer, closest}
+use Rattle.code_cell.specs.Cell.{insertAll, entriesOf, entryNames, isOwn, keysNamed, cellKeys, Keys, NoKeys, refusalOf}
+use Rattle.code_cell.specs.Count.{goodRanges, firstRefusal, allKeys, surveyOf, noRange, closer, closest}
 use Rattle.code_cell.specs.declared.Stretch.{Stretch}
 use Rattle.code_cell.specs.declared.Survey.{Survey}
 use Rattle.code_cell.proofs.Inserts.{all-into-none, all-none}
-use Rattle.code_entry.specs.Range.{keysFrom}
 use Rattle.code_cell.proofs.RangeKeys.{range-keys, no-keys, keys-rising, length-keys}
 use Rattle.code_cell.proofs.Marks.{AllWritable}
 use Rattle.code_cell.proofs.Scans.{left}
 use Rattle.code_cell.proofs.Decisions.{decision, decided, entries-caused}
 use Rattle.code_cell.proofs.Bounds.{bound-enough}
 
--- The first stretch, one entry after the other.
 module _ (a : ℕ) (s : Stretch) {ms : List Named} where
   pub near-refused : (q : ℕ) (ns : List Named) → ms ≡ Refused q ∷ ns → closest a s (goodRanges ms) ≡ s
   unfolding goodRanges closest

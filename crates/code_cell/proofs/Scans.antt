@@ -1,24 +1,23 @@
 -- The first stretch of numbers from a number on: nothing is covered before it, and all of it is. So the distinct codes are counted
 -- stretch by stretch. Assumes nothing.
+-- The tests of the rule, as the code makes them.
 use mathlib.Core.Path.{_≡_, refl, ap, sym, subst, _∙_}
 use mathlib.Core.Bool.{Bool, true, false, false≢true, cond, _&&_, _||_}
 use mathlib.Core.List.{List, [], _∷_}
-use Prim.Native.Nat.{ℕ, _+_, _-_, _*_, _^_, _≤_, _<_, max}
+use Prim.Native.Nat.{ℕ, _+_, _-_, _≤_, _<_, max}
 use native.Mathlib.Omega.{arith}
 use borrow.Author.Tests.{le-leb, lt-leb, lt-ltb, le-ltb, eq-eqb}
 use lib.Dec.{eqb, leb, ltb}
 use lib.ListN.{length}
-use Rattle.dial_code.proofs.Tests.{both, below, equal, above, order, same-test}
+use Rattle.dial_code.proofs.Tests.{below, equal, above, order}
 use Rattle.code_entry.specs.declared.CodeRange.{CodeRange}
 use Rattle.code_entry.specs.Range.{Writable}
 use Rattle.code_cell.specs.Count.{lowOf, highOf, marksEnd, stretch, closer, closest, allKeys}
 use Rattle.code_cell.specs.declared.Stretch.{Stretch}
-use Rattle.code_cell.specs.Rising.{Rising}
 use Rattle.code_cell.specs.Rising.{holds}
 use Rattle.code_cell.proofs.Members.{from, from-all, from-gap, from-stretch, or-true, or-false, or-right}
-use Rattle.code_cell.proofs.Marks.{AllWritable, Alike, allMarks, ranges-alike, isIn, covered, holds-covered, high-most}
+use Rattle.code_cell.proofs.Marks.{AllWritable, allMarks, ranges-alike, isIn, covered, holds-covered, high-most}
 
--- The tests of the rule, as the code makes them.
 module _ (a : ℕ) (s : Stretch) (r : CodeRange) where
   pub passed : highOf r ≤ a → closer a s r ≡ s
   unfolding closer

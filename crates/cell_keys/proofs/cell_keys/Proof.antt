@@ -1,26 +1,12 @@
-use mathlib.Core.Path.{_≡_, refl, ap, sym, _∙_}
-use mathlib.Core.Bool.{Bool, true, false}
-use mathlib.Core.List.{List, [], _∷_, _++_}
-use mathlib.Core.Logic.{⊎-elim}
-use Prim.Native.Nat.{ℕ, zero, suc, _+_, _-_, _*_, _/_, _≤_, _<_}
+-- a cell that is not refused, by its entries
+use mathlib.Core.Path.{_≡_, ap, sym, _∙_, ap₂}
+use mathlib.Core.List.{[], map}
+use Prim.Native.Nat.{_-_}
 use native.Mathlib.Omega.{arith}
-use native.Mathlib.Numerals.{add-one, sub-one}
-use borrow.Author.Tests.{lt-ltb, le-ltb, le-leb, lt-leb, eq-eqb, ne-eqb}
-use lib.ListN.{length, getD, drop, take, set, length-set}
-use lib.Dec.{eqb, leb, ltb}
+use lib.ListN.{length}
 use borrow.Author.Needs.{needs}
 use Rattle.cell_keys.proofs.cell_keys.Statement.{statement}
 use Rattle.cell_keys.proofs.cell_keys.Tie as tie
-use Rattle.cell_keys.proofs.cell_keys.Reads as reads
-use Rattle.cell_keys.proofs.cell_keys.Lts as lts
-use Rattle.cell_keys.proofs.is_falling.Reads as is-falling-reads
-use Rattle.cell_keys.proofs.write_backward.Reads as write-backward-reads
-use Rattle.cell_keys.proofs.write_entries.Reads as write-entries-reads
-use Rattle.cell_keys.proofs.write_own.Reads as write-own-reads
-use Rattle.code_cell.proofs.cell_refusal.Reads as cell-refusal-reads
-use Rattle.code_cell.proofs.is_own.Reads as is-own-reads
-use mathlib.Core.Path.{ap₂}
-use mathlib.Core.List.{map}
 use lib.Seq.{sets}
 use Rattle.code_entry.specs.Entry.{entryCodes}
 use Rattle.code_cell.specs.Cell.{CellKeys, entriesOf, keysNamed, refusalOf, keysOf, cellKeys}
@@ -28,7 +14,6 @@ use Rattle.code_cell.proofs.Refusals.{own-cell, plain-cell}
 use Rattle.cell_keys.specs.Answers.{countOf}
 use Rattle.cell_keys.proofs.Ones.{counted, no-keys-so}
 
--- a cell that is not refused, by its entries
 good-at : (c : tie.Else2) →
     let a = c .before .before .before .before .before .before .before .before .args in
     let x = keysNamed (length (a .keys .now)) [] (map (entryCodes (a .country .now)) (entriesOf (a .cell .now))) in
@@ -39,19 +24,15 @@ good-at c =
     let z : c .before .cell-refusal .result ≡ 0 = omega arith in
     (q, ap refusalOf (sym q) ∙ sym (c .before .cell-refusal .ensures) ∙ z)
 
--- src/lib.rt:310:8
 is-own-requires : tie.Need-is-own-requires
 is-own-requires c κs = search needs
 
--- src/lib.rt:311:9
 write-own-requires : tie.Need-write-own-requires
 write-own-requires c κs = search needs
 
--- src/lib.rt:311:9
 same-length : tie.Need-same-length
 same-length c = search needs
 
--- src/lib.rt:311:9
 returns : tie.Need-returns
 returns c =
     let a = c .before .before .before .before .before .before .before .before .before .args in
@@ -59,15 +40,12 @@ returns c =
     let e = c .before .before .write-own .ensures in
     (e .0 ∙ ap countOf (sym q), e .1 ∙ ap (λ (x : CellKeys). sets (a .keys .now) 0 (keysOf x)) (sym q))
 
--- src/lib.rt:313:9
 cell-refusal-requires : tie.Need-cell-refusal-requires
 cell-refusal-requires c κs = search needs
 
--- src/lib.rt:315:9
 same-length-2 : tie.Need-same-length-2
 same-length-2 c = search needs
 
--- src/lib.rt:315:9
 returns-2 : tie.Need-returns-2
 returns-2 c =
     let a = c .before .before .before .before .before .before .before .before .args in
@@ -76,19 +54,15 @@ returns-2 c =
     let k = no-keys-so x (λ z. c .if2 .taken (e ∙ z)) in
     (ap₂ counted e (sym (ap length k)), sym (ap (sets (a .keys .now) 0) k))
 
--- src/lib.rt:320:8
 is-falling-requires : tie.Need-is-falling-requires
 is-falling-requires c κs = search needs
 
--- src/lib.rt:321:13
 write-backward-requires : tie.Need-write-backward-requires
 write-backward-requires c κs = good-at (c .before .before .before) .1
 
--- src/lib.rt:322:9
 same-length-3 : tie.Need-same-length-3
 same-length-3 c = search needs
 
--- src/lib.rt:322:9
 returns-3 : tie.Need-returns-3
 returns-3 c =
     let a = c .before .before .before .before .before .before .before .before .before .before .before .before .before .before .args in
@@ -98,15 +72,12 @@ returns-3 c =
       e .1 ∙ ap (λ (x : CellKeys). sets (a .keys .now) 0 (keysOf x)) (sym (g .0)),
     )
 
--- src/lib.rt:327:9
 write-entries-requires : tie.Need-write-entries-requires
 write-entries-requires c κs = good-at (c .before .before .before) .1
 
--- src/lib.rt:306:1
 same-length-4 : tie.Need-same-length-4
 same-length-4 c = search needs
 
--- src/lib.rt:306:1
 returns-4 : tie.Need-returns-4
 returns-4 c =
     let a = c .before .before .before .before .before .before .before .before .before .before .before .before .before .before .args in

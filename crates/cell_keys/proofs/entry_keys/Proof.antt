@@ -1,73 +1,54 @@
-use mathlib.Core.Path.{_≡_, refl, ap, sym, _∙_}
-use mathlib.Core.Bool.{Bool, true, false}
-use mathlib.Core.List.{List, [], _∷_, _++_}
-use mathlib.Core.Logic.{⊎-elim}
-use Prim.Native.Nat.{ℕ, zero, suc, _+_, _-_, _*_, _/_, _≤_, _<_}
+-- the entry
+use mathlib.Core.Path.{_≡_, ap, sym, _∙_}
+use mathlib.Core.List.{[], _∷_}
+use Prim.Native.Nat.{ℕ, _-_}
 use native.Mathlib.Omega.{arith}
-use native.Mathlib.Numerals.{add-one, sub-one}
-use borrow.Author.Tests.{lt-ltb, le-ltb, le-leb, lt-leb, eq-eqb, ne-eqb}
-use lib.ListN.{length, getD, drop, take, set, length-set}
-use lib.Dec.{eqb, leb, ltb}
+use lib.ListN.{length}
 use borrow.Author.Needs.{needs}
 use Rattle.cell_keys.proofs.entry_keys.Statement.{statement}
 use Rattle.cell_keys.proofs.entry_keys.Tie as tie
-use Rattle.cell_keys.proofs.entry_keys.Reads as reads
-use Rattle.cell_keys.proofs.entry_keys.Lts as lts
-use Rattle.cell_keys.proofs.write_range.Reads as write-range-reads
-use Rattle.code_entry.proofs.read_entry.Reads as read-entry-reads
 use lib.Seq.{sets}
 use Rattle.slice_laws.proofs.Slices.{rest}
 use Rattle.code_entry.specs.Entry.{readEntry}
 use Rattle.code_entry.specs.declared.EntryRead.the-variants as entry
-use Rattle.code_cell.specs.Cell.{CellKeys, refusalOf, keysOf, entryKeys}
+use Rattle.code_cell.specs.Cell.{CellKeys, refusalOf, keysOf}
 use Rattle.code_cell.proofs.RangeKeys.{length-keys}
 use Rattle.cell_keys.specs.Answers.{restAfter, countWords}
 use Rattle.cell_keys.proofs.Ones.{one-good, one-bad, entry-refused, entry-so, entry-writable, entry-within, entry-rest}
 
--- the entry
 read-at : (c : tie.After-range) →
     readEntry (c .before .before .before .before .before .before .args .country .now) (c .before .before .before .before .before .before .args .cell .now) ≡ entry.Read (c .range .given .0 .0) (c .range .given .0 .1 .0)
 read-at c = sym (c .before .before .read-entry .ensures) ∙ c .range .given .1
 
--- src/lib.rt:266:11
 read-entry-requires : tie.Need-read-entry-requires
 read-entry-requires c κs = search needs
 
--- src/lib.rt:267:28
 enum-known-e : tie.Need-enum-known-e
 enum-known-e c = search needs
 
--- src/lib.rt:268:13
 element-write-answer : tie.Need-element-write-answer
 element-write-answer c = search needs
 
--- src/lib.rt:269:13
 element-write-answer-2 : tie.Need-element-write-answer-2
 element-write-answer-2 c = search needs
 
--- src/lib.rt:272:25
 enum-known-range : tie.Need-enum-known-range
 enum-known-range c = search needs
 
--- src/lib.rt:274:17
 write-range-requires : tie.Need-write-range-requires
 write-range-requires c κs =
     let a = c .before .before .before .before .before .before .before .before .args in
     entry-writable (a .country .now) (a .cell .now) (length (a .keys .now)) _ _ (read-at (c .before .before))
 
--- src/lib.rt:276:17
 element-write-answer-3 : tie.Need-element-write-answer-3
 element-write-answer-3 c = search needs
 
--- src/lib.rt:277:17
 element-write-answer-4 : tie.Need-element-write-answer-4
 element-write-answer-4 c = search needs
 
--- src/lib.rt:278:17
 same-length : tie.Need-same-length
 same-length c = search needs
 
--- src/lib.rt:278:17
 returns : tie.Need-returns
 returns c =
     let a = c .before .before .before .before .before .before .before .before .before .before .before .before .args in
@@ -85,31 +66,25 @@ returns c =
       ),
     )
 
--- src/lib.rt:280:13
 element-write-answer-5 : tie.Need-element-write-answer-5
 element-write-answer-5 c = search needs
 
--- src/lib.rt:281:13
 element-write-answer-6 : tie.Need-element-write-answer-6
 element-write-answer-6 c = search needs
 
--- src/lib.rt:282:13
 sub-result : tie.Need-sub-result
 sub-result c =
     let a = c .before .before .before .before .before .before .before .before .before .before .before .before .args in
     entry-within (a .country .now) (a .cell .now) (length (a .keys .now)) _ _ (read-at (c .before .before .before .before .before .before))
 
--- src/lib.rt:282:13
 part-result-start : tie.Need-part-result-start
 part-result-start c =
     let a = c .before .before .before .before .before .before .before .before .before .before .before .before .args in
     entry-within (a .country .now) (a .cell .now) (length (a .keys .now)) _ _ (read-at (c .before .before .before .before .before .before))
 
--- src/lib.rt:282:13
 part-result-end : tie.Need-part-result-end
 part-result-end c = search needs
 
--- src/lib.rt:256:1
 returns-2 : tie.Need-returns-2
 returns-2 c =
     let a = c .before .before .before .before .before .before .before .args in
@@ -121,11 +96,9 @@ returns-2 c =
       ),
     )
 
--- src/lib.rt:256:1
 same-length-2 : tie.Need-same-length-2
 same-length-2 c = search needs
 
--- src/lib.rt:256:1
 returns-3 : tie.Need-returns-3
 returns-3 c =
     let a = c .before .before .before .before .before .before .before .before .before .before .before .before .before .args in

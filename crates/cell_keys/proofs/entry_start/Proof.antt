@@ -1,18 +1,9 @@
-use mathlib.Core.Path.{_≡_, refl, ap, sym, _∙_}
-use mathlib.Core.Bool.{Bool, true, false}
-use mathlib.Core.List.{List, [], _∷_, _++_}
-use mathlib.Core.Logic.{⊎-elim}
-use Prim.Native.Nat.{ℕ, zero, suc, _+_, _-_, _*_, _/_, _≤_, _<_}
+-- entry_start meets its contract. Assumes nothing.
+use Prim.Native.Nat.{_-_, _≤_}
 use native.Mathlib.Omega.{arith}
-use native.Mathlib.Numerals.{add-one, sub-one}
 use borrow.Author.Needs.{needs}
-use borrow.Author.Tests.{lt-ltb, le-ltb, le-leb, lt-leb, eq-eqb, ne-eqb}
-use lib.ListN.{length, getD, drop, take, set, length-set}
-use lib.Dec.{eqb, leb, ltb}
 use Rattle.cell_keys.proofs.entry_start.Statement.{statement}
 use Rattle.cell_keys.proofs.entry_start.Tie as tie
-use Rattle.cell_keys.proofs.entry_start.Reads as reads
-use Rattle.cell_keys.proofs.entry_start.Lts as lts
 use Rattle.cell_keys.specs.Places.{NoComma}
 use Rattle.cell_keys.proofs.Starts.{start-so, no-comma-none, no-comma-more}
 
@@ -22,41 +13,33 @@ Inv-loop cell end at₀ at = (at ≤ end) × NoComma cell at end
 abbrev μ-loop : tie.MeasureT-loop
 μ-loop cell end at₀ at = at
 
--- src/lib.rt:208:5
 loop-holds : tie.Need-loop-holds Inv-loop μ-loop
 loop-holds c = (omega arith, no-comma-none (c .args .cell .now) (c .args .end))
 
--- src/lib.rt:209:17
 sub-if1 : tie.Need-sub-if1 Inv-loop μ-loop
 sub-if1 c = search needs
 
--- src/lib.rt:209:12
 shared-slice-read-if1 : tie.Need-shared-slice-read-if1 Inv-loop μ-loop
 shared-slice-read-if1 c = search needs
 
--- src/lib.rt:210:13
 returns : tie.Need-returns Inv-loop μ-loop
 returns c =
     let l = c .before .before .before .loop in
     let a = c .before .before .before .before .args in
     (l .inv .0, (start-so (a .cell .now) (l .at) (c .before .before .loop-test .taken) (c .if1 .taken), l .inv .1))
 
--- src/lib.rt:212:9
 sub-at : tie.Need-sub-at Inv-loop μ-loop
 sub-at c = search needs
 
--- src/lib.rt:208:5
 loop-less : tie.Need-loop-less Inv-loop μ-loop
 loop-less c = search needs
 
--- src/lib.rt:208:5
 loop-again : tie.Need-loop-again Inv-loop μ-loop
 loop-again c =
     let l = c .before .before .before .loop in
     let a = c .before .before .before .before .args in
     (omega (arith, l .inv .0), no-comma-more (a .cell .now) (l .at) (a .end) (c .before .before .loop-test .taken) (l .inv .1) (c .if1 .left))
 
--- src/lib.rt:201:1
 returns-2 : tie.Need-returns-2 Inv-loop μ-loop
 returns-2 c =
     let l = c .before .loop in

@@ -1,20 +1,10 @@
-use mathlib.Core.Path.{_≡_, refl, ap, sym, _∙_}
-use mathlib.Core.Bool.{Bool, true, false}
-use mathlib.Core.List.{List, [], _∷_, _++_}
-use mathlib.Core.Logic.{⊎-elim}
-use Prim.Native.Nat.{ℕ, zero, suc, _+_, _-_, _*_, _/_, _≤_, _<_}
+-- fill meets its contract. Assumes nothing.
+use mathlib.Core.Path.{refl}
+use Prim.Native.Nat.{_+_, _-_}
 use native.Mathlib.Omega.{arith}
-use native.Mathlib.Numerals.{add-one, sub-one}
 use borrow.Author.Needs.{needs}
-use borrow.Author.Tests.{lt-ltb, le-ltb, le-leb, lt-leb, eq-eqb, ne-eqb}
-use lib.ListN.{length, getD, drop, take, set, length-set}
-use lib.Dec.{eqb, leb, ltb}
 use Rattle.cell_keys.proofs.fill.Statement.{statement}
 use Rattle.cell_keys.proofs.fill.Tie as tie
-use Rattle.cell_keys.proofs.fill.Reads as reads
-use Rattle.cell_keys.proofs.fill.Lts as lts
-use Rattle.cell_keys.proofs.key_step.Reads as key-step-reads
-use Rattle.dial_code.proofs.weight_of.Reads as weight-of-reads
 use Rattle.cell_keys.proofs.Turns.{Fills, fill-turn, fill-end, key-most, value-most}
 
 abbrev Inv-loop : tie.InvT-loop
@@ -24,69 +14,54 @@ Inv-loop digits first count start keys₀ at weight key₀ value₀ left₀ i₀
 abbrev μ-loop : tie.MeasureT-loop
 μ-loop digits first count start keys₀ at weight key₀ value₀ left₀ i₀ keys key value left i = left
 
--- src/lib.rt:54:9
 weight-of-requires : tie.Need-weight-of-requires Inv-loop μ-loop
 weight-of-requires c κs = search needs
 
--- src/lib.rt:59:5
 loop-holds : tie.Need-loop-holds Inv-loop μ-loop
 loop-holds c =
     let p = c .before .before .pre in
     record { run = p .0; keyed = p .1 .0; room = p .1 .1; long = refl; fills = refl }
 
--- src/lib.rt:60:9
 mul-keys : tie.Need-mul-keys Inv-loop μ-loop
 mul-keys c = omega (arith, c .before .loop .inv .room, c .before .loop .inv .run .2)
 
--- src/lib.rt:60:9
 slice-write-keys : tie.Need-slice-write-keys Inv-loop μ-loop
 slice-write-keys c = omega (arith, c .before .loop .inv .room)
 
--- src/lib.rt:61:16
 key-step-requires : tie.Need-key-step-requires Inv-loop μ-loop
 key-step-requires c κs =
     let i = c .before .loop .inv in
     ((i .run .0, i .run .1, omega arith, omega (arith, i .run .3)), c .before .before .weight-of .ensures)
 
--- src/lib.rt:61:9
 add-key : tie.Need-add-key Inv-loop μ-loop
 add-key c =
     let i = c .before .before .loop .inv in
     omega (arith, c .key-step .ensures, i .keyed, key-most _ (c .before .before .loop .value + 1) (i .run .1))
 
--- src/lib.rt:62:9
 add-value : tie.Need-add-value Inv-loop μ-loop
 add-value c = let i = c .before .before .loop .inv in omega (arith, value-most _ _ _ (i .run))
 
--- src/lib.rt:63:9
 add-i : tie.Need-add-i Inv-loop μ-loop
 add-i c = search needs
 
--- src/lib.rt:64:9
 sub-left : tie.Need-sub-left Inv-loop μ-loop
 sub-left c = search needs
 
--- src/lib.rt:59:5
 loop-less : tie.Need-loop-less Inv-loop μ-loop
 loop-less c = search needs
 
--- src/lib.rt:59:5
 loop-again : tie.Need-loop-again Inv-loop μ-loop
 loop-again c = fill-turn _ _ _ _ _ _ _ _ _ _ _ (c .before .before .loop .inv) (c .before .loop-test .taken) (c .key-step .ensures)
 
--- src/lib.rt:66:5
 mul-keys-2 : tie.Need-mul-keys-2 Inv-loop μ-loop
 mul-keys-2 c = search needs
 
--- src/lib.rt:66:5
 slice-write-keys-2 : tie.Need-slice-write-keys-2 Inv-loop μ-loop
 slice-write-keys-2 c = search needs
 
--- src/lib.rt:48:1
 same-length : tie.Need-same-length Inv-loop μ-loop
 same-length c = search needs
 
--- src/lib.rt:48:1
 returns : tie.Need-returns Inv-loop μ-loop
 returns c = fill-end _ _ _ _ _ _ _ _ _ _ (c .before .loop .inv) (c .loop-test .left)
 

@@ -1,20 +1,8 @@
-use mathlib.Core.Path.{_≡_, refl, ap, sym, _∙_}
-use mathlib.Core.Bool.{Bool, true, false}
-use mathlib.Core.List.{List, [], _∷_, _++_}
-use mathlib.Core.Logic.{⊎-elim}
-use Prim.Native.Nat.{ℕ, zero, suc, _+_, _-_, _*_, _/_, _≤_, _<_}
-use native.Mathlib.Omega.{arith}
-use native.Mathlib.Numerals.{add-one, sub-one}
+-- key_step meets its contract. Assumes nothing.
+use Prim.Native.Nat.{ℕ, _-_}
 use borrow.Author.Needs.{needs}
-use borrow.Author.Tests.{lt-ltb, le-ltb, le-leb, lt-leb, eq-eqb, ne-eqb}
-use lib.ListN.{length, getD, drop, take, set, length-set}
-use lib.Dec.{eqb, leb, ltb}
 use Rattle.cell_keys.proofs.key_step.Statement.{statement}
 use Rattle.cell_keys.proofs.key_step.Tie as tie
-use Rattle.cell_keys.proofs.key_step.Reads as reads
-use Rattle.cell_keys.proofs.key_step.Lts as lts
-use mathlib.Core.Path.{_≡_}
-use Prim.Native.Nat.{ℕ}
 use Rattle.cell_keys.proofs.Steps.{Carries, starts, turn, ends}
 
 abbrev Inv-loop : tie.InvT-loop
@@ -23,35 +11,27 @@ Inv-loop d u weight v₀ w₀ less₀ v w less = (k : ℕ) × Carries d u k v w 
 abbrev μ-loop : tie.MeasureT-loop
 μ-loop d u weight v₀ w₀ less₀ v w less = v
 
--- src/lib.rt:33:5
 loop-holds : tie.Need-loop-holds Inv-loop μ-loop
 loop-holds c = (c .args .digits, starts _ _ _ (c .pre .0) (c .pre .1))
 
--- src/lib.rt:34:17
 mul-less : tie.Need-mul-less Inv-loop μ-loop
 mul-less c = search needs
 
--- src/lib.rt:34:9
 add-less : tie.Need-add-less Inv-loop μ-loop
 add-less c = search needs
 
--- src/lib.rt:35:9
 mul-w : tie.Need-mul-w Inv-loop μ-loop
 mul-w c = search needs
 
--- src/lib.rt:33:5
 loop-less : tie.Need-loop-less Inv-loop μ-loop
 loop-less c = search needs
 
--- src/lib.rt:33:5
 loop-again : tie.Need-loop-again Inv-loop μ-loop
 loop-again c = let l = c .before .loop in (l .inv .0 - 1, turn _ _ _ _ _ _ (l .inv .1) (c .loop-test .taken))
 
--- src/lib.rt:38:5
 sub-result : tie.Need-sub-result Inv-loop μ-loop
 sub-result c = search needs
 
--- src/lib.rt:25:1
 returns : tie.Need-returns Inv-loop μ-loop
 returns c = let l = c .before .loop in ends _ _ _ _ _ _ (l .inv .1) (c .loop-test .left)
 

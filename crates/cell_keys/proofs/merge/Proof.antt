@@ -1,23 +1,10 @@
-use mathlib.Core.Path.{_≡_, refl, ap, sym, _∙_}
-use mathlib.Core.Bool.{Bool, true, false}
-use mathlib.Core.List.{List, [], _∷_, _++_}
-use mathlib.Core.Logic.{⊎-elim}
-use Prim.Native.Nat.{ℕ, zero, suc, _+_, _-_, _*_, _/_, _≤_, _<_}
+-- merge meets its contract. Assumes nothing.
+use mathlib.Core.Path.{refl, _∙_}
+use Prim.Native.Nat.{_+_, _-_}
 use native.Mathlib.Omega.{arith}
-use native.Mathlib.Numerals.{add-one, sub-one}
 use borrow.Author.Needs.{needs}
-use borrow.Author.Tests.{lt-ltb, le-ltb, le-leb, lt-leb, eq-eqb, ne-eqb}
-use lib.ListN.{length, getD, drop, take, set, length-set}
-use lib.Dec.{eqb, leb, ltb}
 use Rattle.cell_keys.proofs.merge.Statement.{statement}
 use Rattle.cell_keys.proofs.merge.Tie as tie
-use Rattle.cell_keys.proofs.merge.Reads as reads
-use Rattle.cell_keys.proofs.merge.Lts as lts
-use Rattle.cell_keys.proofs.fill.Reads as fill-reads
-use Rattle.cell_keys.proofs.key_of.Reads as key-of-reads
-use Rattle.cell_keys.proofs.key_step.Reads as key-step-reads
-use Rattle.cell_keys.proofs.same.Reads as same-reads
-use Rattle.dial_code.proofs.weight_of.Reads as weight-of-reads
 use Rattle.dial_code.proofs.Tests.{positive}
 use Rattle.cell_keys.proofs.Turns.{Merging, some-room, merge-old, merge-new, merge-ends, merge-rest, rest-fits, same-few, step-back, value-most}
 use Rattle.cell_keys.proofs.Puts.{run-one}
@@ -29,23 +16,18 @@ Inv-loop keys₀ old together digits first count weight key₀ left₀ p₀ end�
 abbrev μ-loop : tie.MeasureT-loop
 μ-loop keys₀ old together digits first count weight key₀ left₀ p₀ end₀ keys key left p end = left + p
 
--- src/lib.rt:115:9
 weight-of-requires : tie.Need-weight-of-requires Inv-loop μ-loop
 weight-of-requires c κs = search needs
 
--- src/lib.rt:116:43
 sub-key-of : tie.Need-sub-key-of Inv-loop μ-loop
 sub-key-of c = search needs
 
--- src/lib.rt:116:34
 add-key-of : tie.Need-add-key-of Inv-loop μ-loop
 add-key-of c = let r = c .before .before .pre .0 in omega (arith, value-most _ _ _ r)
 
--- src/lib.rt:116:9
 key-of-requires : tie.Need-key-of-requires Inv-loop μ-loop
 key-of-requires c κs = let r = c .before .before .pre .0 in (r .0, r .1, omega arith, omega (arith, r .2, r .3))
 
--- src/lib.rt:120:5
 loop-holds : tie.Need-loop-holds Inv-loop μ-loop
 loop-holds c =
     let p = c .before .before .before .pre in
@@ -60,115 +42,89 @@ loop-holds c =
       merged = refl;
     }
 
--- src/lib.rt:121:22
 sub-x : tie.Need-sub-x Inv-loop μ-loop
 sub-x c = search needs
 
--- src/lib.rt:121:17
 mul-x : tie.Need-mul-x Inv-loop μ-loop
 mul-x c = search needs
 
--- src/lib.rt:121:17
 slice-read-x : tie.Need-slice-read-x Inv-loop μ-loop
 slice-read-x c = search needs
 
--- src/lib.rt:122:9
 sub-end : tie.Need-sub-end Inv-loop μ-loop
 sub-end c = omega (arith, some-room _ _ _ _ _ _ _ _ _ _ (c .before .before .loop .inv) (c .before .loop-test .taken))
 
--- src/lib.rt:124:13
 mul-keys : tie.Need-mul-keys Inv-loop μ-loop
 mul-keys c = search needs
 
--- src/lib.rt:124:13
 slice-write-keys : tie.Need-slice-write-keys Inv-loop μ-loop
 slice-write-keys c = search needs
 
--- src/lib.rt:125:13
 sub-p : tie.Need-sub-p Inv-loop μ-loop
 sub-p c = search needs
 
--- src/lib.rt:120:5
 loop-less : tie.Need-loop-less Inv-loop μ-loop
 loop-less c = search needs
 
--- src/lib.rt:120:5
 loop-again : tie.Need-loop-again Inv-loop μ-loop
 loop-again c = merge-old _ _ _ _ _ _ _ _ _ _ _ (c .before .before .before .loop .inv) (c .before .before .loop-test .taken) refl (c .if1 .taken)
 
--- src/lib.rt:128:9
 mul-keys-2 : tie.Need-mul-keys-2 Inv-loop μ-loop
 mul-keys-2 c = search needs
 
--- src/lib.rt:128:9
 slice-write-keys-2 : tie.Need-slice-write-keys-2 Inv-loop μ-loop
 slice-write-keys-2 c = search needs
 
--- src/lib.rt:129:14
 same-requires : tie.Need-same-requires Inv-loop μ-loop
 same-requires c κs = search needs
 
--- src/lib.rt:129:9
 sub-p-2 : tie.Need-sub-p-2 Inv-loop μ-loop
 sub-p-2 c = omega (arith, same-few _ _ _ (c .same .ensures), c .before .before .before .loop-test .taken)
 
--- src/lib.rt:130:9
 sub-left : tie.Need-sub-left Inv-loop μ-loop
 sub-left c = search needs
 
--- src/lib.rt:132:13
 same-length : tie.Need-same-length Inv-loop μ-loop
 same-length c = search needs
 
--- src/lib.rt:132:13
 returns : tie.Need-returns Inv-loop μ-loop
 returns c =
     merge-ends _ _ _ _ _ _ _ _ _ _ _ (c .before .before .before .before .before .loop .inv) (c .before .before .before .before .loop-test .taken) refl _ (c .before .same .ensures)
     (c .before .before .if1 .left) (c .if2 .taken)
 
--- src/lib.rt:134:42
 sub-key-step : tie.Need-sub-key-step Inv-loop μ-loop
 sub-key-step c = search needs
 
--- src/lib.rt:134:33
 add-key-step : tie.Need-add-key-step Inv-loop μ-loop
 add-key-step c = omega (arith, value-most _ _ _ (c .before .before .before .before .before .loop .inv .run))
 
--- src/lib.rt:134:16
 key-step-requires : tie.Need-key-step-requires Inv-loop μ-loop
 key-step-requires c κs =
     let r = c .before .before .before .before .before .loop .inv .run in
     ((r .0, r .1, omega arith, omega (arith, r .3, positive (c .if2 .left))), c .before .before .before .before .before .before .before .weight-of .ensures)
 
--- src/lib.rt:134:9
 sub-key : tie.Need-sub-key Inv-loop μ-loop
 sub-key c = omega (arith, step-back _ _ _ _ _ (c .before .before .before .before .before .before .loop .inv .keyed) (c .before .if2 .left) (c .key-step .ensures))
 
--- src/lib.rt:120:5
 loop-less-2 : tie.Need-loop-less-2 Inv-loop μ-loop
 loop-less-2 c = search needs
 
--- src/lib.rt:120:5
 loop-again-2 : tie.Need-loop-again-2 Inv-loop μ-loop
 loop-again-2 c =
     merge-new _ _ _ _ _ _ _ _ _ _ _ (c .before .before .before .before .before .before .loop .inv) (c .before .before .before .before .before .loop-test .taken) refl _ (c .before .before .same .ensures)
     (c .before .before .before .if1 .left) _ (c .before .if2 .left) (c .key-step .ensures)
 
--- src/lib.rt:136:31
 key-of-requires-2 : tie.Need-key-of-requires-2 Inv-loop μ-loop
 key-of-requires-2 c κs = run-one _ _ _ (c .before .loop .inv .run)
 
--- src/lib.rt:136:5
 fill-requires : tie.Need-fill-requires Inv-loop μ-loop
 fill-requires c κs =
     let i = c .before .before .before .loop .inv in
     (i .run, (c .before .key-of2 .ensures, omega (arith, rest-fits _ _ _ _ _ _ _ _ _ _ i (c .before .before .loop-test .left))))
 
--- src/lib.rt:108:1
 same-length-2 : tie.Need-same-length-2 Inv-loop μ-loop
 same-length-2 c = search needs
 
--- src/lib.rt:108:1
 returns-2 : tie.Need-returns-2 Inv-loop μ-loop
 returns-2 c =
     c .before .before .fill .ensures ∙ merge-rest _ _ _ _ _ _ _ _ _ _ (c .before .before .before .before .before .before .loop .inv) (c .before .before .before .before .before .loop-test .left)

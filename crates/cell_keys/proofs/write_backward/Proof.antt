@@ -1,21 +1,11 @@
-use mathlib.Core.Path.{_≡_, refl, ap, sym, _∙_}
-use mathlib.Core.Bool.{Bool, true, false}
-use mathlib.Core.List.{List, [], _∷_, _++_}
-use mathlib.Core.Logic.{⊎-elim}
-use Prim.Native.Nat.{ℕ, zero, suc, _+_, _-_, _*_, _/_, _≤_, _<_}
+-- write_backward meets its contract. Assumes nothing.
+use mathlib.Core.Path.{_≡_, _∙_}
+use Prim.Native.Nat.{_-_}
 use native.Mathlib.Omega.{arith}
-use native.Mathlib.Numerals.{add-one, sub-one}
 use borrow.Author.Needs.{needs}
-use borrow.Author.Tests.{lt-ltb, le-ltb, le-leb, lt-leb, eq-eqb, ne-eqb}
-use lib.ListN.{length, getD, drop, take, set, length-set}
-use lib.Dec.{eqb, leb, ltb}
+use lib.ListN.{drop}
 use Rattle.cell_keys.proofs.write_backward.Statement.{statement}
 use Rattle.cell_keys.proofs.write_backward.Tie as tie
-use Rattle.cell_keys.proofs.write_backward.Reads as reads
-use Rattle.cell_keys.proofs.write_backward.Lts as lts
-use Rattle.cell_keys.proofs.entry_start.Reads as entry-start-reads
-use Rattle.cell_keys.proofs.put_range.Reads as put-range-reads
-use Rattle.code_entry.proofs.read_entry.Reads as read-entry-reads
 use Rattle.code_entry.specs.Entry.{readEntry}
 use Rattle.code_entry.specs.declared.EntryRead.the-variants as entry
 use Rattle.code_cell.proofs.Names.{part-read, named-writable}
@@ -37,43 +27,34 @@ read-at c =
     let a = c .before .before .before .before .before .before .before .before .before .args in
     part-read (a .country .now) (a .cell .now) p (c .before .before .read-entry .ensures) (c .range .given .1)
 
--- src/lib.rt:225:5
 loop-holds : tie.Need-loop-holds Inv-loop μ-loop
 loop-holds c =
     let a = c .before .before .before .args in
     back-begun (a .country .now) (a .cell .now) (a .keys .now) (c .before .before .before .pre)
 
--- src/lib.rt:226:13
 entry-start-requires : tie.Need-entry-start-requires Inv-loop μ-loop
 entry-start-requires c κs = search needs
 
--- src/lib.rt:227:47
 sub-read-entry : tie.Need-sub-read-entry Inv-loop μ-loop
 sub-read-entry c = search needs
 
--- src/lib.rt:227:47
 part-read-entry-start : tie.Need-part-read-entry-start Inv-loop μ-loop
 part-read-entry-start c = search needs
 
--- src/lib.rt:227:47
 part-read-entry-end : tie.Need-part-read-entry-end Inv-loop μ-loop
 part-read-entry-end c = search needs
 
--- src/lib.rt:227:15
 read-entry-requires : tie.Need-read-entry-requires Inv-loop μ-loop
 read-entry-requires c κs = search needs
 
--- src/lib.rt:229:17
 enum-told : tie.Need-enum-told Inv-loop μ-loop
 enum-told c = search needs
 
--- src/lib.rt:229:17
 same-length : tie.Need-same-length Inv-loop μ-loop
 same-length c =
     let a = c .before .before .before .before .before .before .before .before .before .args in
     back-long (a .country .now) (a .cell .now) (a .keys .now) (c .before .before .before .before .before .before .before .before .before .pre) _ _ _ (c .before .before .before .before .before .loop .inv)
 
--- src/lib.rt:229:17
 returns : tie.Need-returns Inv-loop μ-loop
 returns c =
     let a = c .before .before .before .before .before .before .before .before .before .args in
@@ -83,11 +64,9 @@ returns c =
     (no-refusal (a .country .now) (a .cell .now) (a .keys .now) (c .before .before .before .before .before .before .before .before .before .pre) _ _ _ (c .before .before .before .before .before .loop .inv) p (e .0) (e .1 .0) (e .1 .1) _
     (part-read (a .country .now) (a .cell .now) p (c .before .before .read-entry .ensures) (c .enum-told .given .1)))
 
--- src/lib.rt:231:29
 enum-known-range : tie.Need-enum-known-range Inv-loop μ-loop
 enum-known-range c = search needs
 
--- src/lib.rt:232:17
 put-range-requires : tie.Need-put-range-requires Inv-loop μ-loop
 put-range-requires c κs =
     let a = c .before .before .before .before .before .before .before .before .before .before .before .args in
@@ -102,14 +81,12 @@ put-range-requires c κs =
       ),
     )
 
--- src/lib.rt:234:21
 same-length-2 : tie.Need-same-length-2 Inv-loop μ-loop
 same-length-2 c =
     let a = c .before .before .before .before .before .before .before .before .before .before .before .before .before .before .before .args in
     c .before .before .before .put-range .kept .0
     ∙ back-long (a .country .now) (a .cell .now) (a .keys .now) (c .before .before .before .before .before .before .before .before .before .before .before .before .before .before .before .pre) _ _ _ (c .before .before .before .before .before .before .before .before .before .before .before .loop .inv)
 
--- src/lib.rt:234:21
 returns-2 : tie.Need-returns-2 Inv-loop μ-loop
 returns-2 c =
     let a = c .before .before .before .before .before .before .before .before .before .before .before .before .before .before .before .args in
@@ -119,15 +96,12 @@ returns-2 c =
     back-end (a .country .now) (a .cell .now) (a .keys .now) (c .before .before .before .before .before .before .before .before .before .before .before .before .before .before .before .pre) _ _ _ (c .before .before .before .before .before .before .before .before .before .before .before .loop .inv) p (e .0) (e .1 .0) (e .1 .1) _ _
     (read-at (c .before .before .before .before .before .before)) _ _ (f .0) (f .1) (c .if1 .taken)
 
--- src/lib.rt:236:23
 sub-end : tie.Need-sub-end Inv-loop μ-loop
 sub-end c = search needs
 
--- src/lib.rt:225:5
 loop-less : tie.Need-loop-less Inv-loop μ-loop
 loop-less c = search needs
 
--- src/lib.rt:225:5
 loop-again : tie.Need-loop-again Inv-loop μ-loop
 loop-again c =
     let a = c .before .before .before .before .before .before .before .before .before .before .before .before .before .before .before .args in

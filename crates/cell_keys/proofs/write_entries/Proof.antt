@@ -1,20 +1,11 @@
-use mathlib.Core.Path.{_≡_, refl, ap, sym, _∙_}
-use mathlib.Core.Bool.{Bool, true, false}
-use mathlib.Core.List.{List, [], _∷_, _++_}
-use mathlib.Core.Logic.{⊎-elim}
-use Prim.Native.Nat.{ℕ, zero, suc, _+_, _-_, _*_, _/_, _≤_, _<_}
+-- write_entries meets its contract. Assumes nothing.
+use mathlib.Core.Path.{_≡_, _∙_}
+use Prim.Native.Nat.{_+_, _-_, _≤_}
 use native.Mathlib.Omega.{arith}
-use native.Mathlib.Numerals.{add-one, sub-one}
 use borrow.Author.Needs.{needs}
-use borrow.Author.Tests.{lt-ltb, le-ltb, le-leb, lt-leb, eq-eqb, ne-eqb}
-use lib.ListN.{length, getD, drop, take, set, length-set}
-use lib.Dec.{eqb, leb, ltb}
+use lib.ListN.{length, drop}
 use Rattle.cell_keys.proofs.write_entries.Statement.{statement}
 use Rattle.cell_keys.proofs.write_entries.Tie as tie
-use Rattle.cell_keys.proofs.write_entries.Reads as reads
-use Rattle.cell_keys.proofs.write_entries.Lts as lts
-use Rattle.cell_keys.proofs.put_range.Reads as put-range-reads
-use Rattle.code_entry.proofs.read_entry.Reads as read-entry-reads
 use Rattle.code_entry.specs.Entry.{readEntry}
 use Rattle.code_entry.specs.declared.EntryRead.the-variants as entry
 use Rattle.code_cell.proofs.Names.{part-read, ends-within, named-writable}
@@ -43,37 +34,29 @@ within-at c =
     let a = c .before .before .before .before .before .before .before .before .args in
     ends-within (a .country .now) (a .cell .now) (l .at) (l .inv .within) _ _ (read-at c)
 
--- src/lib.rt:173:5
 loop-holds : tie.Need-loop-holds Inv-loop μ-loop
 loop-holds c = let a = c .before .before .before .args in begun (a .country .now) (a .cell .now) (a .keys .now)
 
--- src/lib.rt:174:47
 sub-read-entry : tie.Need-sub-read-entry Inv-loop μ-loop
 sub-read-entry c = omega (arith, c .loop .inv .within)
 
--- src/lib.rt:174:47
 part-read-entry-start : tie.Need-part-read-entry-start Inv-loop μ-loop
 part-read-entry-start c = search needs
 
--- src/lib.rt:174:47
 part-read-entry-end : tie.Need-part-read-entry-end Inv-loop μ-loop
 part-read-entry-end c = search needs
 
--- src/lib.rt:174:15
 read-entry-requires : tie.Need-read-entry-requires Inv-loop μ-loop
 read-entry-requires c κs = search needs
 
--- src/lib.rt:176:17
 enum-told : tie.Need-enum-told Inv-loop μ-loop
 enum-told c = search needs
 
--- src/lib.rt:176:17
 same-length : tie.Need-same-length Inv-loop μ-loop
 same-length c =
     let a = c .before .before .before .before .before .before .before .before .args in
     long (a .country .now) (a .cell .now) (a .keys .now) _ _ _ (c .before .before .before .before .loop .inv) (c .before .before .before .before .before .before .before .before .pre)
 
--- src/lib.rt:176:17
 returns : tie.Need-returns Inv-loop μ-loop
 returns c =
     let a = c .before .before .before .before .before .before .before .before .args in
@@ -82,11 +65,9 @@ returns c =
     (never-refused (a .country .now) (a .cell .now) (a .keys .now) _ _ _ (l .inv) (c .before .before .before .before .before .before .before .before .pre) _
     (part-read (a .country .now) (a .cell .now) (l .at) (c .before .before .read-entry .ensures) (c .enum-told .given .1)))
 
--- src/lib.rt:178:29
 enum-known-range : tie.Need-enum-known-range Inv-loop μ-loop
 enum-known-range c = search needs
 
--- src/lib.rt:179:17
 put-range-requires : tie.Need-put-range-requires Inv-loop μ-loop
 put-range-requires c κs =
     let a = c .before .before .before .before .before .before .before .before .before .before .args in
@@ -99,18 +80,15 @@ put-range-requires c κs =
       ),
     )
 
--- src/lib.rt:180:17
 add-at : tie.Need-add-at Inv-loop μ-loop
 add-at c = omega (arith, within-at (c .before .before .before .before .before))
 
--- src/lib.rt:182:21
 same-length-2 : tie.Need-same-length-2 Inv-loop μ-loop
 same-length-2 c =
     let a = c .before .before .before .before .before .before .before .before .before .before .before .before .before .before .args in
     c .before .before .before .put-range .kept .0
     ∙ long (a .country .now) (a .cell .now) (a .keys .now) _ _ _ (c .before .before .before .before .before .before .before .before .before .before .loop .inv) (c .before .before .before .before .before .before .before .before .before .before .before .before .before .before .pre)
 
--- src/lib.rt:182:21
 returns-2 : tie.Need-returns-2 Inv-loop μ-loop
 returns-2 c =
     let a = c .before .before .before .before .before .before .before .before .before .before .before .before .before .before .args in
@@ -118,15 +96,12 @@ returns-2 c =
     end (a .country .now) (a .cell .now) (a .keys .now) _ _ _ (c .before .before .before .before .before .before .before .before .before .before .loop .inv) (c .before .before .before .before .before .before .before .before .before .before .before .before .before .before .pre) _ _ (read-at (c .before .before .before .before .before .before)) _ _ (e .0) (e .1)
     (c .if1 .taken)
 
--- src/lib.rt:184:17
 add-at-2 : tie.Need-add-at-2 Inv-loop μ-loop
 add-at-2 c = omega (arith, within-at (c .before .before .before .before .before .before))
 
--- src/lib.rt:173:5
 loop-less : tie.Need-loop-less Inv-loop μ-loop
 loop-less c = omega (arith, within-at (c .before .before .before .before .before .before), c .before .before .before .before .before .before .before .before .before .before .loop .inv .within)
 
--- src/lib.rt:173:5
 loop-again : tie.Need-loop-again Inv-loop μ-loop
 loop-again c =
     let a = c .before .before .before .before .before .before .before .before .before .before .before .before .before .before .args in

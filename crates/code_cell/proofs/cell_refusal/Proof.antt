@@ -1,41 +1,25 @@
-use mathlib.Core.Path.{_≡_, refl, ap, sym, _∙_}
-use mathlib.Core.Bool.{Bool, true, false}
-use mathlib.Core.List.{List, [], _∷_, _++_}
-use mathlib.Core.Logic.{⊎-elim}
-use Prim.Native.Nat.{ℕ, zero, suc, _+_, _-_, _*_, _/_, _≤_, _<_}
-use native.Mathlib.Omega.{arith}
-use native.Mathlib.Numerals.{add-one, sub-one}
-use borrow.Author.Tests.{lt-ltb, le-ltb, le-leb, lt-leb, eq-eqb, ne-eqb}
-use lib.ListN.{length, getD, drop, take, set, length-set}
-use lib.Dec.{eqb, leb, ltb}
+-- a cell that does not mean the country's own code
+use mathlib.Core.Path.{_≡_, ap, sym, _∙_}
+use mathlib.Core.Bool.{false}
+use Prim.Native.Nat.{_-_}
+use borrow.Author.Tests.{leb-true, leb-false}
+use lib.ListN.{length}
 use borrow.Author.Needs.{needs}
 use Rattle.code_cell.proofs.cell_refusal.Statement.{statement}
 use Rattle.code_cell.proofs.cell_refusal.Tie as tie
-use Rattle.code_cell.proofs.cell_refusal.Reads as reads
-use Rattle.code_cell.proofs.cell_refusal.Lts as lts
-use Rattle.code_cell.proofs.fits.Reads as fits-reads
-use Rattle.code_cell.proofs.is_ordered.Reads as is-ordered-reads
-use Rattle.code_cell.proofs.is_own.Reads as is-own-reads
-use Rattle.code_cell.proofs.look_over.Reads as look-over-reads
-use Rattle.code_cell.proofs.own_refusal.Reads as own-refusal-reads
-use borrow.Author.Tests.{leb-true, leb-false}
 use Rattle.code_cell.specs.Cell.{refusalOf, isOwn}
 use Rattle.code_cell.proofs.Refusals.{own-cell, cell-few, cell-many, look-refusal, look-few}
 use Rattle.code_cell.proofs.Orders.{ordered-many}
 
--- a cell that does not mean the country's own code
 plain-at : (c : tie.Else1) → isOwn (c .before .before .before .before .before .args .country .now) (c .before .before .before .before .before .args .cell .now) ≡ false
 plain-at c = sym (c .before .is-own .ensures) ∙ c .if1 .left
 
--- src/lib.rt:273:8
 is-own-requires : tie.Need-is-own-requires
 is-own-requires c κs = search needs
 
--- src/lib.rt:274:9
 own-refusal-requires : tie.Need-own-refusal-requires
 own-refusal-requires c κs = search needs
 
--- src/lib.rt:274:9
 returns : tie.Need-returns
 returns c =
     let a = c .before .before .before .before .before .before .args in
@@ -44,11 +28,9 @@ returns c =
     (ap refusalOf
     (own-cell (a .country .now) (a .cell .now) (length (a .keys .now)) (sym (c .before .before .is-own .ensures) ∙ c .before .if1 .taken)))
 
--- src/lib.rt:276:9
 look-over-requires : tie.Need-look-over-requires
 look-over-requires c κs = search needs
 
--- src/lib.rt:278:9
 returns-2 : tie.Need-returns-2
 returns-2 c =
     let a = c .before .before .before .before .before .before .before .before .args in
@@ -58,11 +40,9 @@ returns-2 c =
     (cell-few (a .country .now) (a .cell .now) (length (a .keys .now)) (plain-at (c .before .before .before))
     (look-few (a .country .now) (a .cell .now) (length (a .keys .now)) (s .result) (s .ensures) (c .if2 .taken)))
 
--- src/lib.rt:280:8
 is-ordered-requires : tie.Need-is-ordered-requires
 is-ordered-requires c κs = search needs
 
--- src/lib.rt:281:9
 returns-3 : tie.Need-returns-3
 returns-3 c =
     let a = c .before .before .before .before .before .before .before .before .before .before .args in
@@ -72,11 +52,9 @@ returns-3 c =
     (ordered-many (a .country .now) (a .cell .now) (length (a .keys .now)) (s .result) (s .ensures)
     (sym (c .before .is-ordered .ensures) ∙ c .if3 .taken) (c .before .before .if2 .left)))
 
--- src/lib.rt:283:8
 fits-requires : tie.Need-fits-requires
 fits-requires c κs = search needs
 
--- src/lib.rt:284:9
 returns-4 : tie.Need-returns-4
 returns-4 c =
     let a = c .before .before .before .before .before .before .before .before .before .before .before .before .args in
@@ -86,7 +64,6 @@ returns-4 c =
     (cell-few (a .country .now) (a .cell .now) (length (a .keys .now)) (plain-at (c .before .before .before .before .before .before .before))
     (leb-true _ _ (sym (c .before .fits2 .ensures) ∙ c .if4 .taken)))
 
--- src/lib.rt:270:1
 returns-5 : tie.Need-returns-5
 returns-5 c =
     let a = c .before .before .before .before .before .before .before .before .before .before .before .before .args in

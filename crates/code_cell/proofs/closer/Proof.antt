@@ -1,56 +1,38 @@
-use mathlib.Core.Path.{_≡_, refl, ap, sym, _∙_}
-use mathlib.Core.Bool.{Bool, true, false}
-use mathlib.Core.List.{List, [], _∷_, _++_}
-use mathlib.Core.Logic.{⊎-elim}
-use Prim.Native.Nat.{ℕ, zero, suc, _+_, _-_, _*_, _/_, _≤_, _<_}
+-- the range's first number, as it is counted
+use mathlib.Core.Path.{_≡_}
+use Prim.Native.Nat.{_+_, _-_}
 use native.Mathlib.Omega.{arith}
-use native.Mathlib.Numerals.{add-one, sub-one}
-use borrow.Author.Tests.{lt-ltb, le-ltb, le-leb, lt-leb, eq-eqb, ne-eqb}
-use lib.ListN.{length, getD, drop, take, set, length-set}
-use lib.Dec.{eqb, leb, ltb}
 use borrow.Author.Needs.{needs}
 use Rattle.code_cell.proofs.closer.Statement.{statement}
 use Rattle.code_cell.proofs.closer.Tie as tie
-use Rattle.code_cell.proofs.closer.Reads as reads
-use Rattle.code_cell.proofs.closer.Lts as lts
-use Rattle.dial_code.proofs.ten_to.Reads as ten-to-reads
 use Rattle.code_cell.proofs.Looks.{low-so, over, cut, cut-not, ahead, ahead-not}
 use Rattle.code_cell.proofs.Marks.{high-most}
 use Rattle.code_cell.specs.Count.{lowOf}
 
--- the range's first number, as it is counted
 low-at : (c : tie.After-struct-known) → c .before .ten-to .result + c .before .before .args .range .first ≡ lowOf (c .before .before .args .range)
 low-at c = low-so _ _ _ (c .before .before .pre .few) (c .before .ten-to .ensures)
 
--- src/lib.rt:109:15
 ten-to-requires : tie.Need-ten-to-requires
 ten-to-requires c κs = search needs
 
--- src/lib.rt:109:15
 add-low : tie.Need-add-low
 add-low c = let w = c .before .before .pre in omega (arith, low-at c, high-most _ w)
 
--- src/lib.rt:110:16
 add-high : tie.Need-add-high
 add-high c = let w = c .before .before .before .pre in omega (arith, low-at (c .before), high-most _ w)
 
--- src/lib.rt:112:9
 returns : tie.Need-returns
 returns c = over _ _ _ _ (low-at (c .before .before)) (c .if1 .taken)
 
--- src/lib.rt:116:13
 returns-2 : tie.Need-returns-2
 returns-2 c = cut _ _ _ _ (low-at (c .before .before .before .before .before)) (c .before .before .if2 .taken) (c .before .before .before .if1 .left) (c .if3 .taken)
 
--- src/lib.rt:118:9
 returns-3 : tie.Need-returns-3
 returns-3 c = cut-not _ _ _ _ (low-at (c .before .before .before .before .before)) (c .before .before .if2 .taken) (c .if3 .left)
 
--- src/lib.rt:121:9
 returns-4 : tie.Need-returns-4
 returns-4 c = ahead _ _ _ _ (low-at (c .before .before .before .before .before)) (c .before .before .if2 .left) (c .before .before .before .if1 .left) (c .if4 .taken)
 
--- src/lib.rt:105:1
 returns-5 : tie.Need-returns-5
 returns-5 c = ahead-not _ _ _ _ (low-at (c .before .before .before .before .before)) (c .before .before .if2 .left) (c .if4 .left)
 

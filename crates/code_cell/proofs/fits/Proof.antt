@@ -1,26 +1,17 @@
-use mathlib.Core.Path.{_≡_, refl, ap, sym, _∙_}
-use mathlib.Core.Bool.{Bool, true, false}
-use mathlib.Core.List.{List, [], _∷_, _++_}
-use mathlib.Core.Logic.{⊎-elim}
-use Prim.Native.Nat.{ℕ, zero, suc, _+_, _-_, _*_, _/_, _≤_, _<_}
+-- fits meets its contract. Assumes nothing.
+use mathlib.Core.Path.{_≡_, ap, sym, _∙_}
+use mathlib.Core.List.{[]}
+use Prim.Native.Nat.{ℕ, _+_, _-_, _≤_, _<_}
 use native.Mathlib.Omega.{arith}
-use native.Mathlib.Numerals.{add-one, sub-one}
 use borrow.Author.Needs.{needs}
-use borrow.Author.Tests.{lt-ltb, le-ltb, le-leb, lt-leb, eq-eqb, ne-eqb}
-use lib.ListN.{length, getD, drop, take, set, length-set}
-use lib.Dec.{eqb, leb, ltb}
+use lib.ListN.{length}
+use lib.Dec.{leb}
 use Rattle.code_cell.proofs.fits.Statement.{statement}
 use Rattle.code_cell.proofs.fits.Tie as tie
-use Rattle.code_cell.proofs.fits.Reads as reads
-use Rattle.code_cell.proofs.fits.Lts as lts
-use Rattle.code_cell.proofs.next_stretch.Reads as next-stretch-reads
-use mathlib.Core.List.{map}
-use Rattle.code_entry.specs.Entry.{entryCodes}
 use Rattle.code_cell.specs.Cell.{entriesOf}
-use Rattle.code_cell.specs.Count.{marksEnd, goodRanges, allKeys}
+use Rattle.code_cell.specs.Count.{marksEnd, allKeys}
 use Rattle.code_cell.proofs.Scans.{left, all-left, none-left, some-left}
 use Rattle.code_cell.proofs.Refusals.{rangesOf, codesLeft, good-writable, spent, no-room, none-more}
-use Rattle.code_entry.specs.declared.CodeRange.{CodeRange}
 
 abbrev Inv-loop : tie.InvT-loop
 Inv-loop country cell room from₀ left₀ at room-left =
@@ -44,7 +35,6 @@ more-at c =
     some-left (rangesOf (a .country .now) (a .cell .now)) (good-writable (a .country .now) (entriesOf (a .cell .now))) _ _
     (c .before .before .next-stretch .ensures) (c .if1 .left)
 
--- src/lib.rt:167:5
 loop-holds : tie.Need-loop-holds Inv-loop μ-loop
 loop-holds c =
     let a = c .before .before .args in (
@@ -52,11 +42,9 @@ loop-holds c =
       ap (λ (n : ℕ). leb n (a .room)) (all-left (rangesOf (a .country .now) (a .cell .now)) (good-writable (a .country .now) (entriesOf (a .cell .now)))),
     )
 
--- src/lib.rt:168:13
 next-stretch-requires : tie.Need-next-stretch-requires Inv-loop μ-loop
 next-stretch-requires c κs = search needs
 
--- src/lib.rt:170:13
 returns : tie.Need-returns Inv-loop μ-loop
 returns c =
     let a = c .before .before .before .before .before .before .args in
@@ -66,27 +54,21 @@ returns c =
     (none-left (rangesOf (a .country .now) (a .cell .now)) (good-writable (a .country .now) (entriesOf (a .cell .now))) _ _
     (c .before .before .next-stretch .ensures) (c .if1 .taken)))
 
--- src/lib.rt:172:19
 sub-if2 : tie.Need-sub-if2 Inv-loop μ-loop
 sub-if2 c = omega (arith, more-at (c .before) .2)
 
--- src/lib.rt:173:13
 returns-2 : tie.Need-returns-2 Inv-loop μ-loop
 returns-2 c = sym (sym (c .before .before .before .before .before .loop .inv .1) ∙ no-room _ _ _ _ (more-at (c .before .before) .3) (c .if2 .taken))
 
--- src/lib.rt:175:17
 sub-left : tie.Need-sub-left Inv-loop μ-loop
 sub-left c = omega (arith, more-at (c .before .before .before) .2)
 
--- src/lib.rt:175:9
 sub-left-2 : tie.Need-sub-left-2 Inv-loop μ-loop
 sub-left-2 c = search needs
 
--- src/lib.rt:167:5
 loop-less : tie.Need-loop-less Inv-loop μ-loop
 loop-less c = omega (arith, more-at (c .before .before .before) .0, more-at (c .before .before .before) .1)
 
--- src/lib.rt:167:5
 loop-again : tie.Need-loop-again Inv-loop μ-loop
 loop-again c =
     (more-at (c .before .before .before) .1, spent _ _ _ _ (more-at (c .before .before .before) .3) (c .before .if2 .left) ∙ c .before .before .before .before .before .before .loop .inv .1)

@@ -1,18 +1,11 @@
-use mathlib.Core.Path.{_≡_, refl, ap, sym, _∙_}
-use mathlib.Core.Bool.{Bool, true, false}
-use mathlib.Core.List.{List, [], _∷_, _++_}
-use mathlib.Core.Logic.{⊎-elim}
-use Prim.Native.Nat.{ℕ, zero, suc, _+_, _-_, _*_, _/_, _≤_, _<_}
+-- is_blank meets its contract. Assumes nothing.
+use mathlib.Core.Path.{_≡_, refl, sym, _∙_}
+use Prim.Native.Nat.{_-_, _≤_}
 use native.Mathlib.Omega.{arith}
-use native.Mathlib.Numerals.{add-one, sub-one}
 use borrow.Author.Needs.{needs}
-use borrow.Author.Tests.{lt-ltb, le-ltb, le-leb, lt-leb, eq-eqb, ne-eqb}
-use lib.ListN.{length, getD, drop, take, set, length-set}
-use lib.Dec.{eqb, leb, ltb}
+use lib.ListN.{length, drop}
 use Rattle.code_cell.proofs.is_blank.Statement.{statement}
 use Rattle.code_cell.proofs.is_blank.Tie as tie
-use Rattle.code_cell.proofs.is_blank.Reads as reads
-use Rattle.code_cell.proofs.is_blank.Lts as lts
 use Rattle.dial_code.specs.Digits.{every}
 use Rattle.code_entry.specs.Entry.{isBlank}
 use Rattle.code_cell.proofs.Looks.{blank-next, blank-not, blank-end}
@@ -23,35 +16,28 @@ Inv-loop cell at₀ at = (at ≤ length cell) × (every isBlank (drop at cell) �
 abbrev μ-loop : tie.MeasureT-loop
 μ-loop cell at₀ at = length cell - at
 
--- src/lib.rt:36:5
 loop-holds : tie.Need-loop-holds Inv-loop μ-loop
 loop-holds c = (omega arith, refl)
 
--- src/lib.rt:37:12
 shared-slice-read-if1 : tie.Need-shared-slice-read-if1 Inv-loop μ-loop
 shared-slice-read-if1 c = search needs
 
--- src/lib.rt:38:13
 returns : tie.Need-returns Inv-loop μ-loop
 returns c =
     let l = c .before .before .before .loop in
     sym (sym (l .inv .1) ∙ blank-not _ (l .at) (c .before .before .loop-test .taken) (c .if1 .taken))
 
--- src/lib.rt:40:9
 add-at : tie.Need-add-at Inv-loop μ-loop
 add-at c = search needs
 
--- src/lib.rt:36:5
 loop-less : tie.Need-loop-less Inv-loop μ-loop
 loop-less c = search needs
 
--- src/lib.rt:36:5
 loop-again : tie.Need-loop-again Inv-loop μ-loop
 loop-again c =
     let l = c .before .before .before .loop in
     (omega (arith, c .before .before .loop-test .taken), sym (blank-next _ (l .at) (c .before .before .loop-test .taken) (omega arith)) ∙ l .inv .1)
 
--- src/lib.rt:32:1
 returns-2 : tie.Need-returns-2 Inv-loop μ-loop
 returns-2 c = let l = c .before .loop in sym (sym (l .inv .1) ∙ blank-end _ (l .at) (c .loop-test .left))
 

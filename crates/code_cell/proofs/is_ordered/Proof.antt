@@ -1,21 +1,12 @@
+-- is_ordered meets its contract. Assumes nothing.
 use mathlib.Core.Path.{_≡_, refl, ap, sym, _∙_}
-use mathlib.Core.Bool.{Bool, true, false}
-use mathlib.Core.List.{List, [], _∷_, _++_}
-use mathlib.Core.Logic.{⊎-elim}
-use Prim.Native.Nat.{ℕ, zero, suc, _+_, _-_, _*_, _/_, _≤_, _<_}
+use mathlib.Core.Bool.{_||_}
+use Prim.Native.Nat.{_+_, _-_, _≤_}
 use native.Mathlib.Omega.{arith}
-use native.Mathlib.Numerals.{add-one, sub-one}
 use borrow.Author.Needs.{needs}
-use borrow.Author.Tests.{lt-ltb, le-ltb, le-leb, lt-leb, eq-eqb, ne-eqb}
-use lib.ListN.{length, getD, drop, take, set, length-set}
-use lib.Dec.{eqb, leb, ltb}
+use lib.ListN.{length, drop}
 use Rattle.code_cell.proofs.is_ordered.Statement.{statement}
 use Rattle.code_cell.proofs.is_ordered.Tie as tie
-use Rattle.code_cell.proofs.is_ordered.Reads as reads
-use Rattle.code_cell.proofs.is_ordered.Lts as lts
-use Rattle.code_cell.proofs.is_either.Reads as is-either-reads
-use Rattle.code_cell.proofs.order_with.Reads as order-with-reads
-use Rattle.code_entry.proofs.read_entry.Reads as read-entry-reads
 use Rattle.code_entry.specs.Entry.{readEntry}
 use Rattle.code_entry.specs.declared.EntryRead.the-variants as entry
 use Rattle.code_entry.specs.Range.{Writable}
@@ -23,7 +14,6 @@ use Rattle.code_cell.specs.Count.{goodRanges, ordered, noOrder}
 use Rattle.code_cell.specs.declared.Order.{Order}
 use Rattle.code_cell.proofs.Names.{part-read, namedAt, refused-at, ends-within, named-writable, last-at, next-at}
 use Rattle.code_cell.proofs.Orders.{order-refused, order-next, order-end}
-use mathlib.Core.Bool.{_||_}
 
 abbrev Inv-loop : tie.InvT-loop
 Inv-loop country cell at₀ order₀ at order =
@@ -53,35 +43,27 @@ within-at c =
       named-writable (a .country .now) (a .cell .now) (l .at) (l .inv .0) _ _ (read-at c),
     )
 
--- src/lib.rt:237:5
 loop-holds : tie.Need-loop-holds Inv-loop μ-loop
 loop-holds c = (omega arith, refl)
 
--- src/lib.rt:238:47
 sub-read-entry : tie.Need-sub-read-entry Inv-loop μ-loop
 sub-read-entry c = omega (arith, c .loop .inv .0)
 
--- src/lib.rt:238:47
 part-read-entry-start : tie.Need-part-read-entry-start Inv-loop μ-loop
 part-read-entry-start c = search needs
 
--- src/lib.rt:238:47
 part-read-entry-end : tie.Need-part-read-entry-end Inv-loop μ-loop
 part-read-entry-end c = search needs
 
--- src/lib.rt:238:15
 read-entry-requires : tie.Need-read-entry-requires Inv-loop μ-loop
 read-entry-requires c κs = search needs
 
--- src/lib.rt:240:17
 enum-told : tie.Need-enum-told Inv-loop μ-loop
 enum-told c = search needs
 
--- src/lib.rt:240:17
 is-either-requires : tie.Need-is-either-requires Inv-loop μ-loop
 is-either-requires c κs = search needs
 
--- src/lib.rt:240:17
 returns : tie.Need-returns Inv-loop μ-loop
 returns c =
     let l = c .before .before .before .before .before .loop in
@@ -90,23 +72,18 @@ returns c =
     c .is-either .ensures
     ∙ sym (sym (l .inv .1) ∙ order-refused _ _ _ (refused-at (a .country .now) (a .cell .now) (l .at) (l .inv .0) _ e .1))
 
--- src/lib.rt:242:29
 enum-known-range : tie.Need-enum-known-range Inv-loop μ-loop
 enum-known-range c = search needs
 
--- src/lib.rt:243:17
 order-with-requires : tie.Need-order-with-requires Inv-loop μ-loop
 order-with-requires c κs = within-at (c .before) .1
 
--- src/lib.rt:244:17
 add-at : tie.Need-add-at Inv-loop μ-loop
 add-at c = omega (arith, within-at (c .before .before) .0)
 
--- src/lib.rt:246:21
 is-either-requires-2 : tie.Need-is-either-requires-2 Inv-loop μ-loop
 is-either-requires-2 c κs = search needs
 
--- src/lib.rt:246:21
 returns-2 : tie.Need-returns-2 Inv-loop μ-loop
 returns-2 c =
     let l = c .before .before .before .before .before .before .before .before .loop in
@@ -119,15 +96,12 @@ returns-2 c =
     ∙ order-end _
     ∙ sym (ap (λ (o : Order). o .rises || o .falls) (c .before .before .order-with .ensures)))
 
--- src/lib.rt:248:17
 add-at-2 : tie.Need-add-at-2 Inv-loop μ-loop
 add-at-2 c = omega (arith, within-at (c .before .before .before) .0)
 
--- src/lib.rt:237:5
 loop-less : tie.Need-loop-less Inv-loop μ-loop
 loop-less c = omega (arith, within-at (c .before .before .before) .0, c .before .before .before .before .before .before .before .loop .inv .0)
 
--- src/lib.rt:237:5
 loop-again : tie.Need-loop-again Inv-loop μ-loop
 loop-again c =
     let l = c .before .before .before .before .before .before .before .loop in

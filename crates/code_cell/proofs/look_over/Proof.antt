@@ -1,28 +1,16 @@
+-- look_over meets its contract. Assumes nothing.
 use mathlib.Core.Path.{_≡_, refl, ap, sym, _∙_}
-use mathlib.Core.Bool.{Bool, true, false}
-use mathlib.Core.List.{List, [], _∷_, _++_}
-use mathlib.Core.Logic.{⊎-elim}
-use Prim.Native.Nat.{ℕ, zero, suc, _+_, _-_, _*_, _/_, _≤_, _<_}
+use Prim.Native.Nat.{ℕ, _+_, _-_, _≤_}
 use native.Mathlib.Omega.{arith}
-use native.Mathlib.Numerals.{add-one, sub-one}
 use borrow.Author.Needs.{needs}
-use borrow.Author.Tests.{lt-ltb, le-ltb, le-leb, lt-leb, eq-eqb, ne-eqb}
-use lib.ListN.{length, getD, drop, take, set, length-set}
-use lib.Dec.{eqb, leb, ltb}
+use lib.ListN.{length, drop}
 use Rattle.code_cell.proofs.look_over.Statement.{statement}
 use Rattle.code_cell.proofs.look_over.Tie as tie
-use Rattle.code_cell.proofs.look_over.Reads as reads
-use Rattle.code_cell.proofs.look_over.Lts as lts
-use Rattle.code_cell.proofs.added.Reads as added-reads
-use Rattle.code_entry.proofs.read_entry.Reads as read-entry-reads
-use mathlib.Core.List.{map}
 use Rattle.code_entry.specs.Entry.{readEntry}
 use Rattle.code_entry.specs.declared.EntryRead.the-variants as entry
-use Rattle.code_cell.specs.Count.{surveyOf, noRange}
+use Rattle.code_cell.specs.Count.{surveyOf, noRange, told}
 use Rattle.code_cell.proofs.Names.{part-read, namedAt, refused-at, ends-within, named-writable, last-at, next-at}
 use Rattle.code_cell.proofs.Bounds.{look-refused, look-next, look-end}
-use Rattle.code_cell.specs.Count.{told}
-use Rattle.code_entry.specs.declared.CodeRange.{CodeRange}
 use Rattle.code_entry.specs.Range.{Writable}
 
 abbrev Inv-loop : tie.InvT-loop
@@ -52,31 +40,24 @@ within-at c =
       named-writable (a .country .now) (a .cell .now) (l .at) (l .inv .0) _ _ (read-at c),
     )
 
--- src/lib.rt:86:5
 loop-holds : tie.Need-loop-holds Inv-loop μ-loop
 loop-holds c = (omega arith, refl)
 
--- src/lib.rt:87:47
 sub-read-entry : tie.Need-sub-read-entry Inv-loop μ-loop
 sub-read-entry c = search needs
 
--- src/lib.rt:87:47
 part-read-entry-start : tie.Need-part-read-entry-start Inv-loop μ-loop
 part-read-entry-start c = search needs
 
--- src/lib.rt:87:47
 part-read-entry-end : tie.Need-part-read-entry-end Inv-loop μ-loop
 part-read-entry-end c = search needs
 
--- src/lib.rt:87:15
 read-entry-requires : tie.Need-read-entry-requires Inv-loop μ-loop
 read-entry-requires c κs = search needs
 
--- src/lib.rt:88:32
 enum-known-e : tie.Need-enum-known-e Inv-loop μ-loop
 enum-known-e c = search needs
 
--- src/lib.rt:89:17
 returns : tie.Need-returns Inv-loop μ-loop
 returns c =
     let l = c .before .before .before .before .before .loop in
@@ -84,19 +65,15 @@ returns c =
     let e = part-read (a .country .now) (a .cell .now) (l .at) (c .before .before .before .read-entry .ensures) (c .before .e .given .1) in
     sym (sym (l .inv .1) ∙ look-refused _ _ _ _ _ (refused-at (a .country .now) (a .cell .now) (l .at) (l .inv .0) _ e .1))
 
--- src/lib.rt:91:29
 enum-known-range : tie.Need-enum-known-range Inv-loop μ-loop
 enum-known-range c = search needs
 
--- src/lib.rt:92:17
 added-requires : tie.Need-added-requires Inv-loop μ-loop
 added-requires c κs = (within-at (c .before) .1, c .before .before .before .before .before .before .before .before .pre)
 
--- src/lib.rt:94:17
 add-at : tie.Need-add-at Inv-loop μ-loop
 add-at c = omega (arith, within-at (c .before .before) .0)
 
--- src/lib.rt:96:21
 returns-2 : tie.Need-returns-2 Inv-loop μ-loop
 returns-2 c =
     let l = c .before .before .before .before .before .before .before .loop in
@@ -107,15 +84,12 @@ returns-2 c =
     ∙ look-end _ _ _
     ∙ ap (told 0) (sym (c .before .added .ensures)))
 
--- src/lib.rt:98:17
 add-at-2 : tie.Need-add-at-2 Inv-loop μ-loop
 add-at-2 c = omega (arith, within-at (c .before .before .before) .0)
 
--- src/lib.rt:86:5
 loop-less : tie.Need-loop-less Inv-loop μ-loop
 loop-less c = omega (arith, within-at (c .before .before .before) .0, c .before .before .before .before .before .before .before .loop .inv .0)
 
--- src/lib.rt:86:5
 loop-again : tie.Need-loop-again Inv-loop μ-loop
 loop-again c =
     let l = c .before .before .before .before .before .before .before .loop in

@@ -1,21 +1,11 @@
+-- next_stretch meets its contract. Assumes nothing.
 use mathlib.Core.Path.{_≡_, refl, ap, sym, _∙_}
-use mathlib.Core.Bool.{Bool, true, false}
-use mathlib.Core.List.{List, [], _∷_, _++_}
-use mathlib.Core.Logic.{⊎-elim}
-use Prim.Native.Nat.{ℕ, zero, suc, _+_, _-_, _*_, _/_, _≤_, _<_}
+use Prim.Native.Nat.{_+_, _-_, _≤_}
 use native.Mathlib.Omega.{arith}
-use native.Mathlib.Numerals.{add-one, sub-one}
 use borrow.Author.Needs.{needs}
-use borrow.Author.Tests.{lt-ltb, le-ltb, le-leb, lt-leb, eq-eqb, ne-eqb}
-use lib.ListN.{length, getD, drop, take, set, length-set}
-use lib.Dec.{eqb, leb, ltb}
+use lib.ListN.{length, drop}
 use Rattle.code_cell.proofs.next_stretch.Statement.{statement}
 use Rattle.code_cell.proofs.next_stretch.Tie as tie
-use Rattle.code_cell.proofs.next_stretch.Reads as reads
-use Rattle.code_cell.proofs.next_stretch.Lts as lts
-use Rattle.code_cell.proofs.closer.Reads as closer-reads
-use Rattle.code_entry.proofs.read_entry.Reads as read-entry-reads
-use mathlib.Core.List.{map}
 use Rattle.code_entry.specs.Entry.{readEntry}
 use Rattle.code_entry.specs.declared.EntryRead.the-variants as entry
 use Rattle.code_entry.specs.Range.{Writable}
@@ -53,31 +43,24 @@ within-at c =
       named-writable (a .country .now) (a .cell .now) (l .at) (l .inv .0) _ _ (read-at c),
     )
 
--- src/lib.rt:135:5
 loop-holds : tie.Need-loop-holds Inv-loop μ-loop
 loop-holds c = (omega arith, refl)
 
--- src/lib.rt:136:47
 sub-read-entry : tie.Need-sub-read-entry Inv-loop μ-loop
 sub-read-entry c = search needs
 
--- src/lib.rt:136:47
 part-read-entry-start : tie.Need-part-read-entry-start Inv-loop μ-loop
 part-read-entry-start c = search needs
 
--- src/lib.rt:136:47
 part-read-entry-end : tie.Need-part-read-entry-end Inv-loop μ-loop
 part-read-entry-end c = search needs
 
--- src/lib.rt:136:15
 read-entry-requires : tie.Need-read-entry-requires Inv-loop μ-loop
 read-entry-requires c κs = search needs
 
--- src/lib.rt:138:17
 enum-told : tie.Need-enum-told Inv-loop μ-loop
 enum-told c = search needs
 
--- src/lib.rt:138:17
 returns : tie.Need-returns Inv-loop μ-loop
 returns c =
     let l = c .before .before .before .before .loop in
@@ -85,19 +68,15 @@ returns c =
     let e = part-read (a .country .now) (a .cell .now) (l .at) (c .before .before .read-entry .ensures) (c .enum-told .given .1) in
     sym (sym (l .inv .1) ∙ near-refused _ _ _ _ (refused-at (a .country .now) (a .cell .now) (l .at) (l .inv .0) _ e .1))
 
--- src/lib.rt:140:29
 enum-known-range : tie.Need-enum-known-range Inv-loop μ-loop
 enum-known-range c = search needs
 
--- src/lib.rt:141:17
 closer-requires : tie.Need-closer-requires Inv-loop μ-loop
 closer-requires c κs = within-at (c .before) .1
 
--- src/lib.rt:142:17
 add-at : tie.Need-add-at Inv-loop μ-loop
 add-at c = omega (arith, within-at (c .before .before) .0)
 
--- src/lib.rt:144:21
 returns-2 : tie.Need-returns-2 Inv-loop μ-loop
 returns-2 c =
     let l = c .before .before .before .before .before .before .before .loop in
@@ -108,15 +87,12 @@ returns-2 c =
     ∙ near-end _ _
     ∙ sym (c .before .closer .ensures))
 
--- src/lib.rt:146:17
 add-at-2 : tie.Need-add-at-2 Inv-loop μ-loop
 add-at-2 c = omega (arith, within-at (c .before .before .before) .0)
 
--- src/lib.rt:135:5
 loop-less : tie.Need-loop-less Inv-loop μ-loop
 loop-less c = omega (arith, within-at (c .before .before .before) .0, c .before .before .before .before .before .before .before .loop .inv .0)
 
--- src/lib.rt:135:5
 loop-again : tie.Need-loop-again Inv-loop μ-loop
 loop-again c =
     let l = c .before .before .before .before .before .before .before .loop in
