@@ -261,7 +261,7 @@ RATE_BOOK_MUST_USE
 rate_book_listed rate_book_list(const uint64_t *book, size_t len, uint64_t day, uint8_t *out, size_t out_len);
 
 /* The keys of the codes that a cell names beside a country cell, of length 0 where there is none. It takes no book. Entries that
- * rise take a step for each byte and each key; otherwise about one pass over the bytes, or over the keys so far, for each entry.
+ * rise or fall take a step for each byte and each key; else about one pass over the bytes, or over the keys so far, for each entry.
  * Writes the first count words of keys: each key once, rising, as the codes stand in a dictionary (20, 211, 27). Later words are
  * untouched.
  * Refusals: the first entry that has a cause decides, within it in this order: 50, 51, 52. 50 is also for a stray byte in the

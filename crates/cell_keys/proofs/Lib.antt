@@ -1,6 +1,5 @@
 -- The laws of the keys' writing.
 
-
 pub mod Steps
 pub mod Merges
 pub mod Turns

@@ -1,4 +1,4 @@
--- The words that definitions of the keys' writing are told in.
-pub mod Writing
+-- The answers of the calls over cells. Writing and Places are models, of how keys are written: no public contract cites them.
 pub mod Answers
+pub mod Writing
 pub mod Places

@@ -1,6 +1,5 @@
 -- The laws of rising keys and of cells.
 
-
 pub mod Inserts
 pub mod RangeKeys
 pub mod Members

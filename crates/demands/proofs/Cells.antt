@@ -1,10 +1,13 @@
 -- The laws of cells of codes stated again in full: keys rise, and are those of the codes that entries name; entry by entry the same
 -- is named as by the whole cell; a country cell is the same as its digits before every code. Assumes nothing.
-use mathlib.Core.Path.{_≡_}
+use mathlib.Core.Path.{_≡_, sym}
 use mathlib.Core.Bool.{true, false}
 use mathlib.Core.List.{List, []}
 use Prim.Native.Nat.{ℕ}
+use lib.ListN.{length, drop}
 use Rattle.dial_code.specs.Digits.{every, isAscii}
+use Rattle.code_entry.specs.Entry.{entryOf, restOf}
+use Rattle.code_entry.proofs.EntryLaws.{rest-drop}
 use Rattle.code_cell.specs.Cell.{Keys, isOwn, namesOf, cellKeys, entryKeys, keysOf}
 use Rattle.code_cell.specs.Rising.{Rising}
 use Rattle.code_cell.specs.Rising.{holds}
@@ -30,6 +33,10 @@ exactly-named = keys.cell-holds
 
 pub entry-by-entry : (c s : List ℕ) (room : ℕ) → isOwn c s ≡ false → cellKeys c s room ≡ byEntries c room s
 entry-by-entry = entries.entry-by-entry
+
+-- The part still to be read is the cell from the entry's end on.
+pub rest-is-part : (s : List ℕ) → restOf s ≡ drop (length (entryOf s)) s
+rest-is-part s = sym (rest-drop s)
 
 pub country-before-codes :
     (c s : List ℕ) (room : ℕ)
