@@ -12,9 +12,8 @@ use Rattle.code_entry.specs.Entry.{entryOf, entryCodes}
 use Rattle.code_entry.specs.declared.Named.{Named}
 use Rattle.code_entry.specs.declared.Named.the-variants.{Codes, Refused}
 use Rattle.code_cell.specs.Cell.{insertAll, CellKeys, Keys, NoKeys, keysNamed, namesOf, cellKeys, entryKeys, keysOf}
-use Rattle.code_cell.specs.Rising.{Rising}
+use Rattle.code_cell.specs.Rising.{Rising, holds}
 use Rattle.code_cell.proofs.Inserts.{all-rising}
-use Rattle.code_cell.specs.Rising.{holds}
 use Rattle.code_cell.proofs.Members.{holds-all, or-false}
 use Rattle.cell_laws.specs.Names.{named}
 

@@ -16,9 +16,8 @@ use Rattle.code_entry.specs.declared.Named.{Named}
 use Rattle.code_entry.specs.declared.Named.the-variants.{Codes, Refused}
 use Rattle.code_entry.proofs.EntryLaws.{writable, rest-drop}
 use Rattle.code_cell.specs.Cell.{entriesOf, insertAll, CellKeys, Keys, NoKeys, keysNamed, isOwn, cellKeys, entryKeys}
-use Rattle.code_cell.specs.Rising.{Above, Rising}
+use Rattle.code_cell.specs.Rising.{Above, Rising, holds}
 use Rattle.code_cell.proofs.Inserts.{above-less, all-rising, all-into-none}
-use Rattle.code_cell.specs.Rising.{holds}
 use Rattle.code_cell.proofs.Members.{holds-all, above-out, or-true}
 use Rattle.code_cell.proofs.RangeKeys.{range-keys, keys-rising}
 use Rattle.code_cell.proofs.Names.{later, entries-first}

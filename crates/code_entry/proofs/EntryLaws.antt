@@ -12,9 +12,8 @@ use Rattle.dial_code.specs.Digits.{every, isAscii, digitOf, digits, value}
 use Rattle.allowed_code.specs.Code.{isCode}
 use Rattle.dial_code.proofs.DigitLaws.{value-below, digits-value}
 use Rattle.dial_code.proofs.Tests.{both, and-left-true}
-use Rattle.code_entry.specs.Range.{rangeOf, codesFrom, rangeCodes, Writable}
+use Rattle.code_entry.specs.Range.{rangeOf, codesFrom, rangeCodes, Writable, mostCodes}
 use Rattle.code_entry.specs.Entry.{after, entryOf, restOf, isNoComma, isSome, codeOf, isTyped, allCodes, Typed}
-use Rattle.code_entry.specs.Range.{mostCodes}
 use Rattle.code_entry.specs.Entry.{Single, Joined, Stray, typed, oneCode, wholeRange, codeRange, typedCodes, entryCodes}
 use Rattle.code_entry.specs.Entry.{ownCode}
 use Rattle.code_entry.specs.declared.CodeRange.{CodeRange}

@@ -9,8 +9,7 @@ use lib.ListN.{length}
 use Rattle.code_entry.specs.Range.{rangeOf}
 use Rattle.code_entry.specs.Entry.{codeRange, wholeRange}
 use Rattle.code_entry.specs.Scan.{digitsOf}
-use Rattle.code_entry.proofs.Ranges.{unequal, falling, rising, last-below, last-fits, some-not-allowed, too-many}
-use Rattle.code_entry.proofs.Ranges.{all-named}
+use Rattle.code_entry.proofs.Ranges.{unequal, falling, rising, last-below, last-fits, some-not-allowed, too-many, all-named}
 use Rattle.code_entry.proofs.range_between.Statement.{statement}
 use Rattle.code_entry.proofs.range_between.Tie as tie
 

@@ -6,8 +6,7 @@ use native.Mathlib.Omega.{arith}
 use borrow.Author.Needs.{needs}
 use borrow.Author.Tests.{not-true, not-false}
 use lib.ListN.{length, getD}
-use Rattle.code_entry.proofs.Entries.{refused, read, Blanks, blanks-read, blank-entry, dash-part, after-stray}
-use Rattle.code_entry.proofs.Entries.{after-blank}
+use Rattle.code_entry.proofs.Entries.{refused, read, Blanks, blanks-read, blank-entry, dash-part, after-stray, after-blank}
 use Rattle.code_entry.proofs.read_after.Statement.{statement}
 use Rattle.code_entry.proofs.read_after.Tie as tie
 
