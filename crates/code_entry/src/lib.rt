@@ -4,11 +4,13 @@ ghost use mathlib.Core.Bool.{true};
 ghost use Prim.Native.Nat.{_+_, _^_, _≤_, _<_};
 ghost use lib.ListN.{length, drop};
 ghost use Rattle.allowed_code.specs.Code.{isCode};
-ghost use Rattle.dial_code.specs.Digits.{digits};
+ghost use Rattle.dial_code.specs.Digits.{mostDigits, digits};
 ghost use Rattle.code_entry.specs.Range.{codesFrom};
 ghost use Rattle.code_entry.specs.Entry.{isBlank, leading, allCodes, codeRange, readEntry, ownCode};
 ghost use Rattle.code_entry.specs.Scan.{digitsOf, Held, pushed, runOf, isEnd, sizedFrom, secondPart, afterFirst};
+use country_code::Country;
 use dial_code::Code;
+use dial_code::FIRST_PLACE;
 use dial_code::Keyed;
 use dial_code::MOST_DIGITS;
 
@@ -110,6 +112,25 @@ fn read_digits(own: Code, cell: &[u8], start: usize) -> Run
     Run { code, next: at }
 }
 
+// Whether a code is allowed, by its key: its first digit is not 0 and it has a country.
+fn has_country(count: u64, value: u64) -> bool
+    requires { ⌜ (count ≤ mostDigits) × (value < 10 ^ count) ⌝ }
+    ensures { λ r. ⌜ r ≡ isCode (digits count value) ⌝ }
+{
+    match dial_code::code_key(count, value) {
+        Keyed::Refused(_) => false,
+        Keyed::Key(key) => {
+            if key < 2 * FIRST_PLACE {
+                return false;
+            }
+            match country_code::country_of_key(key) {
+                Country::None => false,
+                Country::Code(_) => true,
+            }
+        }
+    }
+}
+
 // Whether a code of at most two digits is allowed.
 fn is_short_code(code: Code) -> bool
     requires { ⌜ (Held code) × (code .count < 3) ⌝ }
@@ -121,10 +142,7 @@ fn is_short_code(code: Code) -> bool
         }
         return code.value == 7;
     }
-    match allowed_code::sent_code_key(code.count, code.value) {
-        Keyed::Refused(_) => false,
-        Keyed::Key(_) => true,
-    }
+    has_country(code.count, code.value)
 }
 
 // Whether a code is allowed: from three digits on, where its first digit is not 0.
