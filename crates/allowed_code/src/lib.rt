@@ -1,4 +1,6 @@
 // The codes that are allowed, by their keys (document 01, "Codes and countries").
+#![tactic(auto)]
+
 ghost use Rattle.std.specs.Prelude.{◌≡◌};
 ghost use Rattle.allowed_code.specs.Code.{is_code_key, is_code_key_after, sent_code_key};
 

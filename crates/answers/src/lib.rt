@@ -12,7 +12,7 @@ use rate::Offer;
 use rating::Call;
 
 #[repr(C)]
-#[derive(Drop)]
+#[derive(Clone, Copy)]
 pub struct RateBookApplied {
     pub refusal: u64,
     pub entries: u64,
@@ -22,7 +22,7 @@ pub struct RateBookApplied {
 
 // `status` is 0 for closed, 1 for blocked, 2 for open; rate and increments are 0 unless it is open.
 #[repr(C)]
-#[derive(Drop)]
+#[derive(Clone, Copy)]
 pub struct RateBookOffer {
     pub refusal: u64,
     pub key: u64,
@@ -33,7 +33,7 @@ pub struct RateBookOffer {
 }
 
 #[repr(C)]
-#[derive(Drop)]
+#[derive(Clone, Copy)]
 pub struct RateBookCall {
     pub refusal: u64,
     pub key: u64,
@@ -42,7 +42,7 @@ pub struct RateBookCall {
 }
 
 #[repr(C)]
-#[derive(Drop)]
+#[derive(Clone, Copy)]
 pub struct RateBookBatch {
     pub refusal: u64,
     pub rated: u64,
@@ -51,14 +51,14 @@ pub struct RateBookBatch {
 }
 
 #[repr(C)]
-#[derive(Drop)]
+#[derive(Clone, Copy)]
 pub struct RateBookList {
     pub refusal: u64,
     pub length: u64,
 }
 
 #[repr(C)]
-#[derive(Drop)]
+#[derive(Clone, Copy)]
 pub struct RateBookCell {
     pub refusal: u64,
     pub count: u64,
@@ -66,7 +66,7 @@ pub struct RateBookCell {
 
 // `rest` is where the part of the cell still to be read begins.
 #[repr(C)]
-#[derive(Drop)]
+#[derive(Clone, Copy)]
 pub struct RateBookCellEntry {
     pub refusal: u64,
     pub count: u64,

@@ -187,7 +187,7 @@ pub fn book_refusal(words: &[u64]) -> u64
 // Sets every word of a lent slice to a fresh book's; 22 or 20 change none.
 pub fn fresh(words: &mut [u64], period: u64) -> u64
     ensures value { result ≡ fresh_refusal (length words.old) period }
-    ensures words_after { words.new ≡ fresh_words words.old period }
+    ensures after { words.new ≡ fresh_words words.old period }
 {
     if MOST_PERIOD < period {
         return refusal::PERIOD_TOO_LONG;

@@ -59,7 +59,7 @@ module _ (ws : List ℕ) (at : ℕ) (e : Entry) where
 pub length_puts : (ws : List ℕ) (n : ℕ) (es : List Entry) → length (put_entries ws n es) ≡ length ws
 unfolding put_entries
 length_puts ws n [] = refl
-length_puts ws n (e ∷ es) = length_puts _ (n + 1) es ∙ length_put ws (header_words + n * entry_words) e
+length_puts ws n (e ∷ es) = length_puts (put_entry ws (header_words + n * entry_words) e) (n + 1) es ∙ length_put ws (header_words + n * entry_words) e
 
 pub puts_none : (ws : List ℕ) (n : ℕ) → put_entries ws n [] ≡ ws
 unfolding put_entries

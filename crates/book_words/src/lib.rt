@@ -1,4 +1,6 @@
 // The words of a book (document 01, "The book"): its header and its entries, read and written at any place of any words.
+#![tactic(auto)]
+
 ghost use Rattle.std.specs.Prelude.{◌≡◌, [], ◌∷◌, ◌-◌, length, get_or, replicate};
 ghost use Rattle.std.proofs.lemmas.List.Edits.{sets};
 ghost use Rattle.book_words.specs.Layout.{header_of, words_of_header, entry_at, held};
@@ -15,7 +17,7 @@ pub const OFFER_WORD: usize = 2;
 pub const MOST_ENTRIES: usize = 65_535;
 
 // The words before the entries: how many entries there are, the notice period, the last received day and the latest effective day.
-#[derive(Drop)]
+#[derive(Clone, Copy)]
 pub struct Header {
     pub count: u64,
     pub period: u64,
@@ -24,7 +26,7 @@ pub struct Header {
 }
 
 // An entry of a book: a code's key, a day, and the offer word of the code from that day on.
-#[derive(Drop)]
+#[derive(Clone, Copy)]
 pub struct Entry {
     pub key: u64,
     pub day: u64,

@@ -1,11 +1,13 @@
 // Days and moments (document 01, "Units").
+#![tactic(auto)]
+
 ghost use Rattle.std.specs.Prelude.{◌≡◌};
 ghost use Rattle.calendar.specs.Time.{is_day, is_received_day, is_moment, day_of};
 
 const SECONDS_PER_DAY: u64 = 86_400;
 
 // A day, counted from day 0. Never taken for a moment.
-#[derive(Drop)]
+#[derive(Clone, Copy)]
 pub struct Day(pub u64);
 
 impl Day {
@@ -27,7 +29,7 @@ impl Day {
 }
 
 // A moment in seconds, day 0 beginning at moment 0. Never taken for a day.
-#[derive(Drop)]
+#[derive(Clone, Copy)]
 pub struct Moment(pub u64);
 
 impl Moment {

@@ -14,7 +14,7 @@ ghost use Rattle.cell_keys.specs.Writing.{key_at, Run, same as sameAs};
 use code_entry::{CodeRange, EntryRead, Named};
 
 // The answer to a cell: refusal number or 0, and how many keys were written.
-#[derive(Drop)]
+#[derive(Clone, Copy)]
 pub struct CellCount {
     pub refusal: u64,
     pub count: u64,
@@ -144,7 +144,7 @@ fn put_range(keys: &mut [u64], old: usize, range: CodeRange) -> usize
     requires rising { Rising (take old keys.old) }
     requires in_bounds { (old ≤ length keys.old) × (length (insert_all (range_keys range) (take old keys.old)) ≤ length keys.old) }
     ensures value { result ≡ length (insert_all (range_keys range) (take old keys.old)) }
-    ensures keys_after { keys.new ≡ sets keys.old 0 (insert_all (range_keys range) (take old keys.old)) }
+    ensures after { keys.new ≡ sets keys.old 0 (insert_all (range_keys range) (take old keys.old)) }
 {
     let digits = range.digits;
     let first = range.first;
@@ -167,7 +167,7 @@ fn put_range(keys: &mut [u64], old: usize, range: CodeRange) -> usize
 fn write_entries(country: &[u8], cell: &[u8], keys: &mut [u64]) -> usize
     requires { refusal_of (keys_named (length keys.old) [] (entry_names country.now cell.now)) ≡ 0 }
     ensures value { result ≡ length (keys_of (keys_named (length keys.old) [] (entry_names country.now cell.now))) }
-    ensures keys_after { keys.new ≡ sets keys.old 0 (keys_of (keys_named (length keys.old) [] (entry_names country.now cell.now))) }
+    ensures after { keys.new ≡ sets keys.old 0 (keys_of (keys_named (length keys.old) [] (entry_names country.now cell.now))) }
 {
     let mut at: usize = 0;
     let mut n: usize = 0;
@@ -209,7 +209,7 @@ fn entry_start(cell: &[u8], end: usize) -> usize
 fn write_backward(country: &[u8], cell: &[u8], keys: &mut [u64]) -> usize
     requires { refusal_of (keys_named (length keys.old) [] (entry_names country.now cell.now)) ≡ 0 }
     ensures value { result ≡ length (keys_of (keys_named (length keys.old) [] (entry_names country.now cell.now))) }
-    ensures keys_after { keys.new ≡ sets keys.old 0 (keys_of (keys_named (length keys.old) [] (entry_names country.now cell.now))) }
+    ensures after { keys.new ≡ sets keys.old 0 (keys_of (keys_named (length keys.old) [] (entry_names country.now cell.now))) }
 {
     let mut end = cell.len();
     let mut n: usize = 0;
@@ -251,7 +251,7 @@ fn is_falling(country: &[u8], cell: &[u8]) -> bool {
 fn write_range(range: CodeRange, keys: &mut [u64]) -> u64
     requires { Writable range }
     ensures value { result ≡ refusal_of (keys_named (length keys.old) [] (Codes range ∷ [])) }
-    ensures keys_after { keys.new ≡ sets keys.old 0 (keys_of (keys_named (length keys.old) [] (Codes range ∷ []))) }
+    ensures after { keys.new ≡ sets keys.old 0 (keys_of (keys_named (length keys.old) [] (Codes range ∷ []))) }
 {
     let digits = range.digits;
     let first = range.first;
@@ -266,7 +266,7 @@ fn write_range(range: CodeRange, keys: &mut [u64]) -> u64
 // Writes the key of the country's own code, which a cell that is empty or all blanks means.
 fn write_own(country: &[u8], keys: &mut [u64]) -> CellCount
     ensures value { result ≡ count_of (keys_named (length keys.old) [] (own_code country.now ∷ [])) }
-    ensures keys_after { keys.new ≡ sets keys.old 0 (keys_of (keys_named (length keys.old) [] (own_code country.now ∷ []))) }
+    ensures after { keys.new ≡ sets keys.old 0 (keys_of (keys_named (length keys.old) [] (own_code country.now ∷ []))) }
 {
     match code_entry::own_code(country) {
         Named::Refused(e) => CellCount {
@@ -291,7 +291,7 @@ fn write_own(country: &[u8], keys: &mut [u64]) -> CellCount
 // The keys that a cell of codes names beside a country cell, rising and each once, at the front of a lent slice: 50, 51, 52.
 pub fn cell_keys(country: &[u8], cell: &[u8], keys: &mut [u64]) -> CellCount
     ensures value { result ≡ count_of (cell_keys country.now cell.now (length keys.old)) }
-    ensures keys_after { keys.new ≡ sets keys.old 0 (keys_of (cell_keys country.now cell.now (length keys.old))) }
+    ensures after { keys.new ≡ sets keys.old 0 (keys_of (cell_keys country.now cell.now (length keys.old))) }
 {
     if code_cell::is_own(country, cell) {
         return write_own(country, keys);
@@ -327,7 +327,7 @@ pub fn entry_keys<'a>(
     answer: &mut [u64; 2],
 ) -> &'a [u8]
     ensures result_value { result.now ≡ rest_after (entry_keys country.now cell.now (length keys.old)) cell.now }
-    ensures keys_after { keys.new ≡ sets keys.old 0 (keys_of (entry_keys country.now cell.now (length keys.old))) }
+    ensures after { keys.new ≡ sets keys.old 0 (keys_of (entry_keys country.now cell.now (length keys.old))) }
     ensures answer_after { answer.new ≡ sets answer.old 0 (count_words (entry_keys country.now cell.now (length keys.old))) }
 {
     match code_entry::read_entry(country, cell) {

@@ -6,7 +6,7 @@ use country_code::{Country, Stretch};
 use effect::Plan;
 
 // Whether a notice closes the codes with keys in a stretch that it does not list: all of them, or none.
-#[derive(Drop)]
+#[derive(Clone, Copy)]
 pub struct ClosedRange {
     pub keys: Stretch,
     pub closed: bool,

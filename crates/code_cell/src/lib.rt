@@ -13,21 +13,21 @@ use dial_code::KEYS_END;
 const MARKS_END: u64 = 2_000_000_000_000_000;
 
 // The numbers from `low` to below `high`.
-#[derive(Drop)]
+#[derive(Clone, Copy)]
 pub struct Stretch {
     pub low: u64,
     pub high: u64,
 }
 
 // A first look at a cell: why the first refused entry is refused, or 0, and a bound of the distinct codes before it.
-#[derive(Drop)]
+#[derive(Clone, Copy)]
 pub struct Survey {
     pub refusal: u64,
     pub bound: u64,
 }
 
 // Whether ranges rise or fall, with the last and the first key of the last of them.
-#[derive(Drop)]
+#[derive(Clone, Copy)]
 pub struct Order {
     pub rises: bool,
     pub falls: bool,

@@ -13,7 +13,7 @@ use dial_code::{Code, FIRST_PLACE, Keyed, MOST_DIGITS};
 const MOST_CODES: u64 = 1_000;
 
 // So many codes of one length, from the code of a value on.
-#[derive(Drop)]
+#[derive(Clone, Copy)]
 pub struct CodeRange {
     pub digits: u64,
     pub first: u64,
@@ -21,21 +21,21 @@ pub struct CodeRange {
 }
 
 // What an entry names.
-#[derive(Drop)]
+#[derive(Clone, Copy)]
 pub enum Named {
     Codes(CodeRange),
     Refused(u64),
 }
 
 // The entry at the front of a cell: what it names, with how many bytes it takes up to its comma or the cell's end; or 50, 51.
-#[derive(Drop)]
+#[derive(Clone, Copy)]
 pub enum EntryRead {
     Read(CodeRange, usize),
     Refused(u64),
 }
 
 // The digits at a place of a cell, behind those counted before, and where they end.
-#[derive(Drop)]
+#[derive(Clone, Copy)]
 pub struct Run {
     pub code: Code,
     pub next: usize,

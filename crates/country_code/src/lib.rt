@@ -1,4 +1,6 @@
 // Country codes after E.164 (document 01, "Codes and countries").
+#![tactic(auto)]
+
 ghost use Rattle.std.specs.Prelude.{◌≡◌, ◌<◌};
 ghost use Rattle.country_code.specs.CountryCode.{country_of_key, two_digits};
 ghost use Rattle.country_code.specs.Stretches.{stretch_of, is_within};
@@ -11,14 +13,14 @@ const TWO_DIGITS_LOW: u64 = 0xf7fb_fb97_c810_0000;
 const TWO_DIGITS_HIGH: u64 = 0x0000_0004_fc56_0007;
 
 // The country of a digit string, as its country code's value; none where the string is too short to have one.
-#[derive(Drop)]
+#[derive(Clone, Copy)]
 pub enum Country {
     Code(u64),
     None,
 }
 
 // The words from `low` to below `high`.
-#[derive(Drop)]
+#[derive(Clone, Copy)]
 pub struct Stretch {
     pub low: u64,
     pub high: u64,

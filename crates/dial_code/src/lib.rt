@@ -1,4 +1,6 @@
 // Digit strings and their keys (document 01, "Codes and countries").
+#![tactic(auto)]
+
 ghost use Rattle.std.specs.Prelude.{◌≡◌, ◌-◌, ◌^◌, min};
 ghost use Rattle.dial_code.specs.Digits.{most_digits};
 ghost use Rattle.dial_code.specs.Key.{code_key, key_or_zero, code_of, is_gapless};
@@ -17,14 +19,14 @@ const THREE_PLACES: u64 = 1_331;
 pub const FIRST_OF_THREE: u64 = 121;
 
 // The key of a digit string, or why it has none.
-#[derive(Drop)]
+#[derive(Clone, Copy)]
 pub enum Keyed {
     Key(u64),
     Refused(u64),
 }
 
 // A code as it is sent: how many digits it has, and their value.
-#[derive(Drop)]
+#[derive(Clone, Copy)]
 pub struct Code {
     pub count: u64,
     pub value: u64,

@@ -1,4 +1,6 @@
 // Numbers, given as ASCII digits or sent as a count of digits and a value, and their keys (document 01, "Codes and countries").
+#![tactic(auto)]
+
 ghost use Rattle.std.specs.Prelude.{◌≡◌, ◌<◌};
 ghost use Rattle.dialled_number.specs.NumberKey.{number_key, sent_number_key};
 

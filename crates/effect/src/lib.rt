@@ -7,7 +7,7 @@ use notice_line::Line;
 use rate::Offer;
 
 // `noticed` where every line waits for the floor; `closing` is the day on which unlisted codes close.
-#[derive(Drop)]
+#[derive(Clone, Copy)]
 pub struct Plan {
     pub kind: u64,
     pub country: u64,

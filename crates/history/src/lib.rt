@@ -2,7 +2,7 @@
 // apply, which both speak of.
 
 // What an apply answers: refusal number, and where it is 0 the new book's entries, last received day and latest effective day.
-#[derive(Drop)]
+#[derive(Clone, Copy)]
 pub struct Applied {
     pub refusal: u64,
     pub entries: u64,

@@ -16,7 +16,7 @@ pub const HAS_RATE: u64 = 2;
 const MOST_SECONDS: u64 = 255;
 
 // What a line's status and rate offer, with the position after them.
-#[derive(Drop)]
+#[derive(Clone, Copy)]
 pub enum Terms {
     Offered(Offer, usize),
     Refused(u64),

@@ -36,7 +36,7 @@ pub fn line_size(line: Line) -> usize
 // Writes a line at a position of a lent slice. Where there is no room, or a field is too large, no byte changes.
 pub fn write_line(out: &mut [u8], at: usize, line: Line) -> Written
     ensures value { result ≡ answer_all (length out.old) at (line_fields line) }
-    ensures out_after { out.new ≡ leaves_all out.old at (line_fields line) }
+    ensures after { out.new ≡ leaves_all out.old at (line_fields line) }
 {
     let code = dial_code::key_code(line.key);
     let listed = line.listed;

@@ -13,7 +13,7 @@ use calendar::Day;
 use varint_writing::Written;
 
 // What writing a list answers: a refusal number or 0, and the list's length, 0 with a refusal.
-#[derive(Drop)]
+#[derive(Clone, Copy)]
 pub struct Listed {
     pub refusal: u64,
     pub length: usize,
@@ -43,7 +43,7 @@ fn write_at(
 ) -> usize
     requires { from + length (encode_lines (added_by e (entries_from words.now at left) day)) ≤ length out.old }
     ensures value { result ≡ from + length (encode_lines (added_by e (entries_from words.now at left) day)) }
-    ensures out_after { out.new ≡ sets out.old from
+    ensures after { out.new ≡ sets out.old from
         (encode_lines (added_by e (entries_from words.now at left) day)) }
 {
     if !standing::is_standing(words, at, left, e, day) {
@@ -75,7 +75,7 @@ fn write_lines(words: &[u64], day: u64, out: &mut [u8], from: usize) -> usize
     requires words_value { sound words.now ≡ true }
     requires day_in_bounds { from + length (encode_lines (standing_lines (entries_of words.now) day)) ≤ length out.old }
     ensures value { result ≡ from + length (encode_lines (standing_lines (entries_of words.now) day)) }
-    ensures out_after { out.new ≡ sets out.old from
+    ensures after { out.new ≡ sets out.old from
         (encode_lines (standing_lines (entries_of words.now) day)) }
 {
     let mut end = from;
@@ -96,7 +96,7 @@ fn write_all(words: &[u64], day: Day, lines: usize, out: &mut [u8]) -> usize
     requires lines_value { (lines ≡ length (standing_lines (entries_of words.now) day.0)) × (0 < lines) }
     requires day_in_bounds { length (list_of words.now day) ≤ length out.old }
     ensures value { result ≡ length (list_of words.now day) }
-    ensures out_after { out.new ≡ sets out.old 0 (list_of words.now day) }
+    ensures after { out.new ≡ sets out.old 0 (list_of words.now day) }
 {
     match notice_writing::write_header(out, 0, notice_header::FULL, day.0, 0, lines as u64) {
         Written::UpTo(at) => write_lines(words, day.0, out, at),
@@ -110,7 +110,7 @@ fn write_all(words: &[u64], day: Day, lines: usize, out: &mut [u8]) -> usize
 // leaves all of them.
 pub fn write_list(words: &[u64], day: Day, out: &mut [u8]) -> Listed
     ensures value { result ≡ list_answer words.now day (length out.old) }
-    ensures out_after { out.new ≡ list_bytes words.now day out.old }
+    ensures after { out.new ≡ list_bytes words.now day out.old }
 {
     let e = book::book_refusal(words);
     if e != 0 {

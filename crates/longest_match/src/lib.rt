@@ -10,7 +10,7 @@ use book_words::Entry;
 use rate::{Offer, Stored};
 
 // The answer to a number: the matched key, 0 for none, and the offer.
-#[derive(Drop)]
+#[derive(Clone, Copy)]
 pub struct Answer {
     pub key: u64,
     pub offer: Offer,

@@ -6,7 +6,7 @@ use calendar::Day;
 use dial_code::Keyed;
 use longest_match::Answer;
 
-#[derive(Drop)]
+#[derive(Clone, Copy)]
 pub enum Lookup {
     Found(Answer),
     Refused(u64),

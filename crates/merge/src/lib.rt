@@ -11,14 +11,14 @@ use effect::Plan;
 use notice_line::LineRead;
 
 // What a merge comes to: how many entries, and the latest effective day.
-#[derive(Drop)]
+#[derive(Clone, Copy)]
 pub struct Merged {
     pub count: usize,
     pub latest: u64,
 }
 
 // Where a merge stands: the place of the next old entry, how many are left, and how many entries the new book has so far.
-#[derive(Drop)]
+#[derive(Clone, Copy)]
 struct Place {
     at: u32,
     left: usize,
@@ -26,7 +26,7 @@ struct Place {
 }
 
 // The same after the entries of a listed code, with the code's status so far.
-#[derive(Drop)]
+#[derive(Clone, Copy)]
 struct Kept {
     at: u32,
     left: usize,

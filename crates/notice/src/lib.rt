@@ -8,7 +8,7 @@ use notice_line::LineRead;
 
 // What later passes need of a checked notice: its leading fields, where its first line starts, and the earliest listed day,
 // where a line that lists none counts as listing day 0.
-#[derive(Drop)]
+#[derive(Clone, Copy)]
 pub struct Summary {
     pub kind: u64,
     pub received: u64,
@@ -18,14 +18,14 @@ pub struct Summary {
     pub earliest: u64,
 }
 
-#[derive(Drop)]
+#[derive(Clone, Copy)]
 pub enum Checked {
     Notice(Summary),
     Refused(u64),
 }
 
 // The earliest listed day of the lines read, or the first refusal.
-#[derive(Drop)]
+#[derive(Clone, Copy)]
 pub enum Scan {
     Earliest(u64),
     Refused(u64),

@@ -22,7 +22,7 @@ pub const REPLACEMENT: u64 = 4;
 
 // The fields before the lines: `country` is the value of a replacement's country, else 0; `start` is where the first line
 // starts.
-#[derive(Drop)]
+#[derive(Clone, Copy)]
 pub struct Header {
     pub kind: u64,
     pub received: u64,
@@ -31,7 +31,7 @@ pub struct Header {
     pub start: usize,
 }
 
-#[derive(Drop)]
+#[derive(Clone, Copy)]
 pub enum HeaderRead {
     Leads(Header),
     Refused(u64),

@@ -9,7 +9,7 @@ use varint::Number;
 
 // A line: its code's key, what it offers from its effective day on (closed for a delete), and its last field as sent: the
 // listed day plus one, or 0 for none.
-#[derive(Drop)]
+#[derive(Clone, Copy)]
 pub struct Line {
     pub key: u64,
     pub offer: Offer,
@@ -17,7 +17,7 @@ pub struct Line {
 }
 
 // What stands at a line's place: the line with the position after it, or the first refusal.
-#[derive(Drop)]
+#[derive(Clone, Copy)]
 pub enum LineRead {
     Read(Line, usize),
     Refused(u64),

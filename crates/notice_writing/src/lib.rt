@@ -7,7 +7,7 @@ ghost use Rattle.notice_writing.specs.Layout.{header_fields, country_count};
 use varint_writing::Written;
 
 // Numbers to be written one after the other: the first `count` of `numbers`.
-#[derive(Drop)]
+#[derive(Clone, Copy)]
 struct Fields {
     numbers: [u64; 5],
     count: usize,
@@ -58,7 +58,7 @@ fn fields_size(fields: Fields) -> usize
 fn write_fields(out: &mut [u8], at: usize, fields: Fields) -> Written
     requires { fields.count ≤ length fields.numbers }
     ensures value { result ≡ answer_all (length out.old) at (take fields.count fields.numbers) }
-    ensures out_after { out.new ≡ leaves_all out.old at (take fields.count fields.numbers) }
+    ensures after { out.new ≡ leaves_all out.old at (take fields.count fields.numbers) }
 {
     let numbers = fields.numbers;
     let count = fields.count;
@@ -82,7 +82,7 @@ pub fn write_header(
     lines: u64,
 ) -> Written
     ensures value { result ≡ answer_all (length out.old) at (header_fields kind received country lines) }
-    ensures out_after { out.new ≡ leaves_all out.old at (header_fields kind received country lines) }
+    ensures after { out.new ≡ leaves_all out.old at (header_fields kind received country lines) }
 {
     write_fields(out, at, header_fields(kind, received, country, lines))
 }

@@ -37,7 +37,7 @@ pub extern "C" fn rate_book_words(entries: u64) -> u64
 #[unsafe(no_mangle)]
 pub extern "C" fn rate_book_fresh(book: &mut [u64], period: u64) -> u64
     ensures value { result ≡ fresh_refusal (length book.old) period }
-    ensures book_after { book.new ≡ fresh_words book.old period }
+    ensures after { book.new ≡ fresh_words book.old period }
 {
     book::fresh(book, period)
 }
@@ -80,7 +80,7 @@ pub extern "C" fn rate_book_rate_batch(
     rows: &mut [u64],
 ) -> RateBookBatch
     ensures value { result ≡ batch_of (batch_answer book.now batch.now (length rows.old)) }
-    ensures rows_after { rows.new ≡ batch_rows book.now batch.now rows.old }
+    ensures after { rows.new ≡ batch_rows book.now batch.now rows.old }
 {
     answers::batch_of(batch::rate_batch(book, batch, rows))
 }
@@ -89,7 +89,7 @@ pub extern "C" fn rate_book_rate_batch(
 #[unsafe(no_mangle)]
 pub extern "C" fn rate_book_list(book: &[u64], day: u64, out: &mut [u8]) -> RateBookList
     ensures value { result ≡ list_of (list_answer book.now (dayAt day) (length out.old)) }
-    ensures out_after { out.new ≡ list_bytes book.now (dayAt day) out.old }
+    ensures after { out.new ≡ list_bytes book.now (dayAt day) out.old }
 {
     answers::list_of(listing::write_list(book, Day(day), out))
 }
@@ -98,7 +98,7 @@ pub extern "C" fn rate_book_list(book: &[u64], day: u64, out: &mut [u8]) -> Rate
 #[unsafe(no_mangle)]
 pub extern "C" fn rate_book_cell(country: &[u8], cell: &[u8], keys: &mut [u64]) -> RateBookCell
     ensures value { result ≡ cell_of (count_of (cell_keys country.now cell.now (length keys.old))) }
-    ensures keys_after { keys.new ≡ sets keys.old 0 (keys_of (cell_keys country.now cell.now (length keys.old))) }
+    ensures after { keys.new ≡ sets keys.old 0 (keys_of (cell_keys country.now cell.now (length keys.old))) }
 {
     answers::cell_of(cell_keys::cell_keys(country, cell, keys))
 }
@@ -111,7 +111,7 @@ pub extern "C" fn rate_book_cell_entry(
     keys: &mut [u64],
 ) -> RateBookCellEntry
     ensures value { result ≡ entry_answer_of (entry_keys country.now cell.now (length keys.old)) cell.now }
-    ensures keys_after { keys.new ≡ sets keys.old 0 (keys_of (entry_keys country.now cell.now (length keys.old))) }
+    ensures after { keys.new ≡ sets keys.old 0 (keys_of (entry_keys country.now cell.now (length keys.old))) }
 {
     let mut answer = [0; 2];
     let rest = cell_keys::entry_keys(country, cell, keys, &mut answer);

@@ -1,5 +1,6 @@
 // The refusal numbers of document 01, "Who can cause a refusal": the one place where each is written for the code.
 // specs/Refusal.antt has the same names for the rules.
+#![tactic(auto)]
 
 // The supplier or the call feed.
 

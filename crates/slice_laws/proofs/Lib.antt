@@ -1,2 +1,3 @@
 -- The laws of parts of a slice.
 pub mod Slices
+pub mod Clauses

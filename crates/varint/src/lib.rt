@@ -1,5 +1,7 @@
 // Numbers in groups of seven bits (document 01, "Notice layout"), read at a position.
 // In the trade: unsigned LEB128 of at most nine groups, in its shortest form only.
+#![tactic(auto)]
+
 ghost use Rattle.std.specs.Prelude.{◌≡◌, ◌<◌};
 ghost use Rattle.varint.specs.Reading.{read_number};
 ghost use Rattle.varint.specs.Ranged.{in_range, read_ranged};
@@ -8,7 +10,7 @@ ghost use Rattle.varint.specs.Ranged.{in_range, read_ranged};
 pub const MOST_GROUPS: u64 = 9;
 
 // What stands at a position: a number with the position after it, or refusal 1 or 2.
-#[derive(Drop)]
+#[derive(Clone, Copy)]
 pub enum Number {
     Value(u64, usize),
     Refused(u64),

@@ -1,4 +1,6 @@
 // Numbers in groups of seven bits (document 01, "Notice layout"): their bytes, and how many there are.
+#![tactic(auto)]
+
 ghost use Rattle.std.specs.Prelude.{◌≡◌};
 ghost use Rattle.varint_encoding.specs.Encoding.{size_of};
 ghost use Rattle.varint_encoding.specs.Several.{size_of_all};

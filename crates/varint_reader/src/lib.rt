@@ -1,4 +1,6 @@
 // A reader stands in a notice and gives its numbers one by one (document 01, "Notice layout").
+#![tactic(auto)]
+
 ghost use Rattle.std.specs.Prelude.{◌≡◌};
 ghost use Rattle.varint.specs.Reading.{read_number};
 ghost use Rattle.varint_reader.specs.Standing.{place_after, moved_on};
@@ -6,7 +8,7 @@ ghost use Rattle.varint_reader.specs.Standing.{place_after, moved_on};
 use varint::Number;
 
 // The bytes, and the position of the next number in them.
-#[derive(Drop)]
+#[derive(Clone, Copy)]
 pub struct Reader<'a> {
     pub src: &'a [u8],
     pub at: usize,

@@ -1,4 +1,6 @@
 // Numbers in groups of seven bits (document 01, "Notice layout"), written at a position.
+#![tactic(auto)]
+
 ghost use Rattle.std.specs.Prelude.{◌≡◌, true, ◌+◌, ◌*◌, ◌^◌, ◌<◌, ◌≤◌, leb, length};
 ghost use Rattle.std.proofs.lemmas.List.Edits.{sets};
 ghost use Rattle.varint.specs.Reading.{most_groups};
@@ -7,7 +9,7 @@ ghost use Rattle.varint_encoding.specs.Several.{encode_all, encodable_all};
 ghost use Rattle.varint_writing.specs.Writing.{answer_all, leaves_all};
 
 // What writing came to: the position after the last number, or why nothing was written.
-#[derive(Drop)]
+#[derive(Clone, Copy)]
 pub enum Written {
     UpTo(usize),
     NoRoom,
@@ -28,7 +30,7 @@ fn fits(room: usize, at: usize, size: usize) -> bool
 fn put_number(out: &mut [u8], at: usize, n: u64) -> usize
     requires { (n < 2 ^ 63) × (at + length (encode n) ≤ length out.old) }
     ensures value { result ≡ at + length (encode n) }
-    ensures out_after { out.new ≡ sets out.old at (encode n) }
+    ensures after { out.new ≡ sets out.old at (encode n) }
 {
     let mut m = n;
     let mut i = at;
@@ -45,7 +47,7 @@ fn put_number(out: &mut [u8], at: usize, n: u64) -> usize
 fn put_numbers(out: &mut [u8], at: usize, numbers: &[u64]) -> usize
     requires { (encodable_all numbers.now ≡ true) × (at + length (encode_all numbers.now) ≤ length out.old) }
     ensures value { result ≡ at + length (encode_all numbers.now) }
-    ensures out_after { out.new ≡ sets out.old at (encode_all numbers.now) }
+    ensures after { out.new ≡ sets out.old at (encode_all numbers.now) }
 {
     let mut end = at;
     let mut done: usize = 0;
@@ -84,7 +86,7 @@ fn is_ample(room: usize, at: usize, count: usize) -> bool
 // too large, no byte changes.
 pub fn write_numbers(out: &mut [u8], at: usize, numbers: &[u64]) -> Written
     ensures value { result ≡ answer_all (length out.old) at numbers.now }
-    ensures out_after { out.new ≡ leaves_all out.old at numbers.now }
+    ensures after { out.new ≡ leaves_all out.old at numbers.now }
 {
     if !are_encodable(numbers) {
         return Written::TooLarge;

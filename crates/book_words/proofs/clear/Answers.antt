@@ -1,0 +1,27 @@
+-- clear meets its contract. The loop's invariant: setting the words from `i` on to 0 leaves what setting all of them does. The
+-- measure is the number of words left. Assumes nothing.
+use mathlib.Core.Path.{◌≡◌, refl, ◌∙◌}
+use Prim.Native.Nat.{◌-◌}
+use native.Mathlib.Omega.{arith}
+use borrow.Author.Rules.{rules}
+use lib.ListN.{length, length-set, replicate}
+use lib.Seq.{sets}
+use Rattle.book_words.proofs.Rows.{clears, cleared}
+use Rattle.book_words.proofs.clear.Goals as goal
+
+pub loop-i-init : goal.loop-i-init
+loop-i-init c = (refl, refl)
+
+pub loop-i-preserved : goal.loop-i-preserved
+loop-i-preserved c =
+    let p = c in
+    let n = length p.args.words.now in
+    (simp length-set p.loop-i.invariant.0, clears p.loop-i.words _ n (omega arith) ∙ p.loop-i.invariant.1)
+
+pub shape_of-words : goal.shape_of-words
+shape_of-words c = c.loop-i.invariant.0
+
+pub returns : goal.returns
+returns c =
+    let n = length c.args.words.now in
+    cleared c.loop-i.words _ n (omega arith) ∙ c.loop-i.invariant.1

@@ -1,0 +1,14 @@
+-- `book_words::entry_at` meets its contract. Assumes nothing.
+use Prim.Native.Nat.{◌-◌}
+use mathlib.Core.Path.{refl}
+use borrow.Author.Rules.{rules}
+use Rattle.book_words.specs.Layout.{entry_at}
+use Rattle.book_words.proofs.entry_at.Goals as goal
+
+pub returns-then-from-words : goal.returns-then-from-words
+unfolding entry_at
+returns-then-from-words c = refl
+
+pub returns : goal.returns
+unfolding entry_at
+returns c = rw (c.word_at.ensures, c.word_at-2.ensures, c.word_at-3.ensures)

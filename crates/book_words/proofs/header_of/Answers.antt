@@ -1,0 +1,14 @@
+-- `book_words::header_of` meets its contract. Assumes nothing.
+use Prim.Native.Nat.{◌-◌}
+use borrow.Author.Rules.{rules}
+use borrow.Author.Rules.{rules}
+use Rattle.book_words.proofs.header_of.Goals as goal
+
+pub returns : goal.returns
+returns c =
+    rw (
+      c.word_at.ensures,
+      c.word_at-2.ensures,
+      c.word_at-3.ensures,
+      c.word_at-4.ensures,
+    )

@@ -1,2 +1,0 @@
--- How a caller has the numbers of a reader.
-pub mod Advance
