@@ -1,4 +1,4 @@
-// Links librate_book.a: from the folder that RATE_BOOK_LIB_DIR names, else from where `rt staticlib rate_book` writes it.
+// Links librate_book.a: from the folder that RATE_BOOK_LIB_DIR names, else from where `tools/archive` writes it.
 use std::env;
 use std::path::PathBuf;
 
@@ -14,7 +14,7 @@ fn main() {
     let archive = folder.join("librate_book.a");
     if !archive.is_file() {
         eprintln!(
-            "error: {} is missing. Build it by `rt staticlib rate_book` at the repository's root, or set RATE_BOOK_LIB_DIR to the \
+            "error: {} is missing. Build it by `tools/archive` at the repository's root, or set RATE_BOOK_LIB_DIR to the \
              folder that holds librate_book.a",
             archive.display()
         );

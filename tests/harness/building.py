@@ -13,13 +13,13 @@ def archive():
     """The library's archive, built where it is missing or older than a source."""
     made = ROOT / "target" / "staticlib" / "librate_book.a"
     crates = ROOT / "crates.txt"
-    line = next(line for line in crates.read_text().splitlines() if line.startswith("rate_book:"))
-    folders = [ROOT / "crates" / name for name in line.replace(":", "").split()]
-    sources = [crates, *(path for folder in folders for path in folder.rglob("*") if path.suffix in (".rt", ".antt"))]
+    line = next(line for line in crates.read_text().splitlines() if line.startswith("rate_book "))
+    folders = [ROOT / "crates" / name for name in ("rate_book", *line.partition(":")[2].split())]
+    sources = [crates, *(path for folder in folders for path in folder.glob("[!o]*/**/*") if path.suffix in (".rt", ".antt"))]
     if not made.exists() or made.stat().st_mtime < max(path.stat().st_mtime for path in sources):
-        built = subprocess.run(["rt", "staticlib", "rate_book"], cwd=ROOT, stdout=subprocess.PIPE, stderr=subprocess.STDOUT)
+        built = subprocess.run([ROOT / "tools" / "archive"], cwd=ROOT, stdout=subprocess.PIPE, stderr=subprocess.STDOUT)
         if built.returncode != 0:
-            raise SystemExit(built.stdout.decode(errors="replace") + "rt staticlib rate_book failed")
+            raise SystemExit(built.stdout.decode(errors="replace") + "tools/archive failed")
     return made
 
 

@@ -29,7 +29,7 @@
 //!
 //! # Linking
 //!
-//! The build script links `librate_book.a` from where `rt staticlib rate_book` writes it, or from the folder that the environment
+//! The build script links `librate_book.a` from where `tools/archive` writes it, or from the folder that the environment
 //! variable `RATE_BOOK_LIB_DIR` names. The archive is for x86-64 Linux. It needs `memset`, which every C runtime and Rust's
 //! compiler-builtins have, and nothing else.
 #![deny(missing_docs, unsafe_code)]

@@ -1,32 +1,44 @@
 // Reads one notice, the first 16,384 bytes of standard input, applies it to a fresh book with a notice period of 7 days, and
 // prints the result: refusal number, entries, last received day, latest effective day.
+#![tactic(auto)]
+
+use std::io::{self, Read};
+
 use history::Applied;
 
 const PERIOD: u64 = 7;
 
-// One more number of the line.
-fn put(n: u64) {
-    io::write_all(1, b" ");
-    io::print_decimal(1, n);
+fn put_result(rt: HostRuntime, res: Applied) -> io::Result<()> {
+    println!(rt; "{} {} {} {}", res.refusal, res.entries, res.received, res.latest)
 }
 
-fn put_result(res: Applied) {
-    io::print_decimal(1, res.refusal);
-    put(res.entries);
-    put(res.received);
-    put(res.latest);
-    io::write_all(1, b"\n");
-}
-
-fn run(notice: &[u8]) {
+fn run(rt: HostRuntime, notice: &[u8]) -> io::Result<()> {
     let mut old = [0u64; book_words::HEADER_WORDS];
     let mut new = [0u64; 8192];
     book::fresh(&mut old, PERIOD);
-    put_result(update::apply(&old, notice, &mut new));
+    put_result(rt, update::apply(&old, notice, &mut new))
 }
 
-fn main() {
+// The bytes that a reader has, until the buffer is full: how many there are.
+fn fill<R: Read>(mut input: R, bytes: &mut [u8]) -> io::Result<usize>
+    ensures { IfOk result (λ n. n ≤ length bytes.new) }
+{
+    let mut filled = 0;
+    for _ in 0..u64::MAX {
+        if filled == bytes.len() {
+            break;
+        }
+        let read = input.read(&mut bytes[filled..])?;
+        if read == 0 {
+            break;
+        }
+        filled += read;
+    }
+    Ok(filled)
+}
+
+fn main(rt: HostRuntime) -> io::Result<()> {
     let mut bytes = [0u8; 16384];
-    let n = io::read_full(0, &mut bytes);
-    run(&bytes[..n]);
+    let n = fill(rt.reader(), &mut bytes)?;
+    run(rt, &bytes[..n])
 }
