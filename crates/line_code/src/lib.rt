@@ -1,4 +1,6 @@
 // A line's code, as its key (document 01, "Notice layout").
+#![tactic(auto)]
+
 ghost use Rattle.std.specs.Prelude.{◌≡◌, ◌≤◌};
 ghost use Rattle.dial_code.specs.Digits.{most_digits};
 ghost use Rattle.country_code.specs.CountryCode.{country_of_key};
