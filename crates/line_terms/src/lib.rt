@@ -1,4 +1,6 @@
 // A line's status and rate (document 01, "Notice layout").
+#![tactic(auto)]
+
 ghost use Rattle.std.specs.Prelude.{◌≡◌, ◌≤◌};
 ghost use Rattle.rate.specs.Price.{price_of};
 ghost use Rattle.line_terms.specs.TermsRule.{most_seconds, offered, read_increments, read_rate, read_terms};
