@@ -1,4 +1,6 @@
 // One line of a price notice (document 01, "Notice layout").
+#![tactic(auto)]
+
 ghost use Rattle.std.specs.Prelude.{◌≡◌};
 ghost use Rattle.notice_line.specs.LineRule.{read_listed, listed_day, read_line, line_at};
 
