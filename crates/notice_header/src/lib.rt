@@ -1,4 +1,6 @@
 // A notice's leading fields (document 01, "Notice layout"), read through a reader that gives its numbers one by one.
+#![tactic(auto)]
+
 ghost use Rattle.std.specs.Prelude.{◌≡◌, ◌≤◌};
 ghost use Rattle.dial_code.specs.Digits.{most_digits};
 ghost use Rattle.notice_header.specs.HeaderRule.{country_field, read_header};
