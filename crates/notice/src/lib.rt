@@ -1,4 +1,6 @@
 // A whole price notice (document 01, "Notice layout"): the fields before the lines, the lines, and the end.
+#![tactic(auto)]
+
 ghost use Rattle.std.specs.Prelude.{◌≡◌, ◌≤◌, min, length, drop};
 ghost use Rattle.notice.specs.NoticeRule.{read_lines, scanned, check_notice};
 
