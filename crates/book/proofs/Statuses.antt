@@ -24,7 +24,7 @@ use Rattle.book.proofs.SoundLists.{After, same, next, SoundFrom, Sound, each_all
 pub status_append : (w : ℕ) (es fs : List Entry) (k d : ℕ) → status_from w (es ++ fs) k d ≡ status_from (status_from w es k d) fs k d
 unfolding status_from
 status_append w [] fs k d = refl
-status_append w (e ∷ es) fs k d = status_append _ es fs k d
+status_append w (e ∷ es) fs k d = status_append (cond (eqb e.key k && leb e.day d) e.offer w) es fs k d
 
 -- A code and a day, x and d, that stand before a key and a day, k and n.
 pub data Before (k n x d : ℕ) : Type 0 where

@@ -1,5 +1,7 @@
 // The book (document 01, "The book"): a lent slice of 64-bit words, whatever it holds. When it is sound, and what keeps it from
 // being used.
+#![tactic(auto)]
+
 ghost use Rattle.std.specs.Prelude.{◌≡◌, not, ◌&&◌, ◌+◌, ◌*◌, ◌≤◌, true, eqb, length, drop};
 ghost use Rattle.allowed_code.specs.Code.{is_code_key};
 ghost use Rattle.book_words.specs.Layout.{header_words, most_entries, count_of, entries_from};

@@ -1,0 +1,18 @@
+-- headed_count meets its contract: none without a sound header, else the count in it. Assumes nothing.
+use mathlib.Core.Path.{sym, ◌∙◌}
+use borrow.Author.Rules.{rules}
+use borrow.Author.Tests.{not-true, not-false}
+use Rattle.book.proofs.Headers.{no_words, no_header, headed_count_law}
+use Rattle.book.proofs.headed_count.Goals as goal
+
+pub returns-then-words-lt-HEADER_WORDS : goal.returns-then-words-lt-HEADER_WORDS
+returns-then-words-lt-HEADER_WORDS c = sym (no_words _ c.if-words-lt-HEADER_WORDS.true)
+
+pub returns-then-not-is_headed : goal.returns-then-not-is_headed
+returns-then-not-is_headed c = sym (no_header _ (sym c.is_headed.ensures ∙ c.if-not-is_headed.true))
+
+pub returns : goal.returns
+returns c =
+    let e = c in
+    c.counted.ensures
+    ∙ sym (headed_count_law _ e.if-words-lt-HEADER_WORDS.false (sym e.is_headed.ensures ∙ e.if-not-is_headed.false))

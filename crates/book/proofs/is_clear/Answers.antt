@@ -1,0 +1,22 @@
+-- is_clear meets its contract. The loop's invariant: the words from the first on are all 0 where those from `i` on are. The
+-- measure is the number of words left. Assumes nothing.
+use mathlib.Core.Path.{◌≡◌, refl, sym, ◌∙◌}
+use Prim.Native.Nat.{◌-◌}
+use native.Mathlib.Omega.{arith}
+use borrow.Author.Rules.{rules}
+use lib.ListN.{length, drop}
+use Rattle.book.specs.Soundness.{all_zero}
+use Rattle.book.proofs.SoundRows.{not_zero, one_zero, all_seen}
+use Rattle.book.proofs.is_clear.Goals as goal
+
+pub loop-i-init : goal.loop-i-init
+loop-i-init c = refl
+
+pub returns-then-words-i-ne0 : goal.returns-then-words-i-ne0
+returns-then-words-i-ne0 c = let p = c in sym (p.loop-i.invariant ∙ not_zero _ _ p.loop-i-test.true (λ z. omega arith))
+
+pub loop-i-preserved : goal.loop-i-preserved
+loop-i-preserved c = let p = c in p.loop-i.invariant ∙ one_zero _ _ p.loop-i-test.true (omega arith)
+
+pub returns : goal.returns
+returns c = sym (c.loop-i.invariant ∙ all_seen _ _ c.loop-i-test.false)
