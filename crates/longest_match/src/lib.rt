@@ -1,4 +1,6 @@
 // The longest match of a code or number in a book on a day, searched for by halving (document 01, "The book").
+#![tactic(auto)]
+
 ghost use Rattle.std.specs.Prelude.{◌≡◌, ◌+◌, ◌-◌, ◌*◌, ◌≤◌, min, length};
 ghost use Rattle.rate.specs.OfferWord.{offer_of};
 ghost use Rattle.book_words.specs.Layout.{header_words, entry_words, entry_at};

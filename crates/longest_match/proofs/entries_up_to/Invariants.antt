@@ -1,0 +1,20 @@
+-- entries_up_to meets its contract. The loop's invariant: halving goes on from `lo` to `hi`, with turns enough. The measure is
+-- how far the two are apart. Assumes nothing.
+use mathlib.Core.Path.{◌≡◌, sym, ◌∙◌}
+use Prim.Native.Nat.{ℕ, ◌-◌, ◌≤◌}
+use native.Mathlib.Omega.{arith}
+use borrow.Author.Rules.{rules}
+use Rattle.longest_match.specs.Search.{halved, up_to, found_up_to}
+use Rattle.longest_match.proofs.Halving.{halving, goes_behind, goes_before, stays, tested}
+use Rattle.longest_match.proofs.entries_up_to.Given as goal
+
+abbrev pub invariant-loop-lo : goal.invariant-loop-lo
+invariant-loop-lo l =
+    (n : ℕ)
+    × (l.hi - l.lo ≤ n)
+    × (l.lo ≤ l.hi)
+    × (l.hi ≤ l.count)
+    × (found_up_to l.words l.count l.key l.day ≡ halved (up_to l.words l.key l.day) n l.lo l.hi)
+
+abbrev pub decreases-loop-lo : goal.decreases-loop-lo
+decreases-loop-lo l = l.hi - l.lo
