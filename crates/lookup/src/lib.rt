@@ -1,4 +1,6 @@
 // What a number costs on a day (document 01, "The book").
+#![tactic(auto)]
+
 ghost use Rattle.std.specs.Prelude.{◌≡◌};
 ghost use Rattle.lookup.specs.Lookup.{lookup};
 
