@@ -1,4 +1,6 @@
 // One entry of a cell of codes, as suppliers type them (document 02, request 1): a code or a range of codes.
+#![tactic(auto)]
+
 ghost use Rattle.std.specs.Prelude.{◌≡◌, true, ◌+◌, ◌^◌, ◌≤◌, ◌<◌, length, drop};
 ghost use Rattle.allowed_code.specs.Code.{is_code};
 ghost use Rattle.dial_code.specs.Digits.{most_digits, digits};
