@@ -1,4 +1,6 @@
 // What a cell of codes is refused for (document 02, request 1): known before a word is written, with no memory but a few numbers.
+#![tactic(auto)]
+
 ghost use Rattle.std.specs.Prelude.{◌≡◌, ◌&&◌, ◌||◌, [], ◌∷◌, ◌+◌, ◌^◌, ◌≤◌, ◌<◌, leb, ltb, length};
 ghost use Rattle.dial_code.specs.Digits.{every};
 ghost use Rattle.code_entry.specs.Entry.{is_blank, own_code};
