@@ -1,5 +1,5 @@
 -- The bytes of several numbers, one after the other (document 01, "Notice layout").
-use Rattle.std.specs.Prelude.{◌≡◌, refl, Bool, true, cond, ◌&&◌, List, [], ◌∷◌, ◌++◌, ℕ, ◌+◌, ◌^◌, length}
+use Rattle.std.specs.Prelude.{◌≡◌, refl, Bool, true, cond, ◌&&◌, List, [], ◌∷◌, ◌++◌, ℕ, ◌^◌, length}
 use Rattle.varint_encoding.specs.Encoding.{encode, encodable}
 
 -- The bytes of several numbers below 2 ^ 63.

@@ -1,7 +1,6 @@
 -- is_code_key meets its contract: the key of an allowed code is in range, starts with a digit other than 0, has a country and no
 -- gap. Assumes nothing.
 use mathlib.Core.Path.{sym, ◌∙◌}
-use borrow.Author.Rules.{rules}
 use Rattle.allowed_code.proofs.CodeLaws.{beyond_keys, no_first_digit, with_country, without_country}
 use Rattle.allowed_code.proofs.is_code_key.Goals as goal
 

@@ -1,6 +1,5 @@
 -- is_code_key_after meets its contract. Assumes nothing.
 use mathlib.Core.Path.{sym, ◌∙◌}
-use borrow.Author.Rules.{rules}
 use Rattle.allowed_code.proofs.CodeLaws.{like_places, other_places}
 use Rattle.allowed_code.proofs.is_code_key_after.Goals as goal
 

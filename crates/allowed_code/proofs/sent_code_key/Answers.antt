@@ -1,7 +1,6 @@
 -- sent_code_key meets its contract: a code's key, where it shows that the first digit is not 0 and has a country. Assumes
 -- nothing.
 use mathlib.Core.Path.{◌≡◌, sym, ◌∙◌}
-use borrow.Author.Rules.{rules}
 use Rattle.dial_code.specs.Key.{code_key}
 use Rattle.dial_code.specs.declared.Keyed.TheVariants.{Key}
 use Rattle.allowed_code.proofs.SentCodes.{unwritten, first_zero, no_country, some_country}

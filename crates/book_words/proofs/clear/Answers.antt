@@ -1,11 +1,8 @@
 -- clear meets its contract. The loop's invariant: setting the words from `i` on to 0 leaves what setting all of them does. The
 -- measure is the number of words left. Assumes nothing.
-use mathlib.Core.Path.{◌≡◌, refl, ◌∙◌}
-use Prim.Native.Nat.{◌-◌}
+use mathlib.Core.Path.{refl, ◌∙◌}
 use native.Mathlib.Omega.{arith}
-use borrow.Author.Rules.{rules}
-use lib.ListN.{length, length-set, replicate}
-use lib.Seq.{sets}
+use lib.ListN.{length, length-set}
 use Rattle.book_words.proofs.Rows.{clears, cleared}
 use Rattle.book_words.proofs.clear.Goals as goal
 

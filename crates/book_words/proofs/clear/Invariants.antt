@@ -1,12 +1,9 @@
 -- clear meets its contract. The loop's invariant: setting the words from `i` on to 0 leaves what setting all of them does. The
 -- measure is the number of words left. Assumes nothing.
-use mathlib.Core.Path.{◌≡◌, refl, ◌∙◌}
+use mathlib.Core.Path.{◌≡◌}
 use Prim.Native.Nat.{◌-◌}
-use native.Mathlib.Omega.{arith}
-use borrow.Author.Rules.{rules}
-use lib.ListN.{length, length-set, replicate}
+use lib.ListN.{length, replicate}
 use lib.Seq.{sets}
-use Rattle.book_words.proofs.Rows.{clears, cleared}
 use Rattle.book_words.proofs.clear.Given as goal
 
 abbrev pub invariant-loop-i : goal.invariant-loop-i

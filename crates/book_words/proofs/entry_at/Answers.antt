@@ -1,7 +1,5 @@
 -- `book_words::entry_at` meets its contract. Assumes nothing.
-use Prim.Native.Nat.{◌-◌}
 use mathlib.Core.Path.{refl}
-use borrow.Author.Rules.{rules}
 use Rattle.book_words.specs.Layout.{entry_at}
 use Rattle.book_words.proofs.entry_at.Goals as goal
 

@@ -1,7 +1,4 @@
 -- `book_words::header_of` meets its contract. Assumes nothing.
-use Prim.Native.Nat.{◌-◌}
-use borrow.Author.Rules.{rules}
-use borrow.Author.Rules.{rules}
 use Rattle.book_words.proofs.header_of.Goals as goal
 
 pub returns : goal.returns

@@ -1,9 +1,6 @@
 -- `book_words::put_word` meets its contract. Assumes nothing.
 use mathlib.Core.Path.{sym}
-use Prim.Native.Nat.{◌-◌}
 use native.Mathlib.Omega.{arith}
-use borrow.Author.Rules.{rules}
-use borrow.Author.Rules.{rules}
 use lib.Seq.{set_out}
 use Rattle.book_words.proofs.put_word.Goals as goal
 

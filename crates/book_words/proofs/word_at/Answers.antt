@@ -1,8 +1,5 @@
 -- `book_words::word_at` meets its contract. Assumes nothing.
-use Prim.Native.Nat.{◌-◌}
 use native.Mathlib.Omega.{arith}
-use borrow.Author.Rules.{rules}
-use borrow.Author.Rules.{rules}
 use Rattle.book_words.proofs.Places.{past_word}
 use Rattle.book_words.proofs.word_at.Goals as goal
 

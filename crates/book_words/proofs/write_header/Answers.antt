@@ -1,10 +1,8 @@
 -- `book_words::write_header` meets its contract. Assumes nothing.
 use mathlib.Core.Path.{ap, ◌∙◌}
 use mathlib.Core.List.{List}
-use Prim.Native.Nat.{ℕ, ◌-◌}
-use borrow.Author.Rules.{rules}
+use Prim.Native.Nat.{ℕ}
 use lib.ListN.{set}
-use borrow.Author.Rules.{rules}
 use Rattle.book_words.proofs.write_header.Goals as goal
 
 pub returns : goal.returns

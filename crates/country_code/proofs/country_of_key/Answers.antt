@@ -1,7 +1,6 @@
 -- country_of_key meets its contract: each of its tests on the first three places settles the rule. Assumes nothing.
 use mathlib.Core.Path.{◌≡◌, refl, sym, ◌∙◌}
 use Prim.Native.Nat.{◌<◌}
-use borrow.Author.Rules.{rules}
 use Rattle.dial_code.specs.Key.{keys_end}
 use Rattle.dial_code.proofs.Tests.{positive}
 use Rattle.country_code.proofs.CountryLaws.{first, second, two_fits, three_fits}

@@ -2,7 +2,6 @@
 use mathlib.Core.Path.{ap, ◌∙◌}
 use Prim.Native.Nat.{◌-◌}
 use native.Mathlib.Omega.{arith}
-use borrow.Author.Rules.{rules}
 use Rattle.country_code.specs.CountryCode.{two_digits}
 use Rattle.country_code.proofs.CountryLaws.{low_bits, high_bits}
 use Rattle.country_code.proofs.is_two_digits.Goals as goal

@@ -1,6 +1,5 @@
 -- stretch_of meets its contract. Assumes nothing.
 use mathlib.Core.Path.{sym}
-use borrow.Author.Rules.{rules}
 use Rattle.country_code.proofs.StretchLaws.{no_stretch, some_stretch}
 use Rattle.country_code.proofs.stretch_of.Goals as goal
 

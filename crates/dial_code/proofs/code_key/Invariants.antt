@@ -1,16 +1,10 @@
 -- code_key meets its contract. The loop's invariant: what is weighed and the key of the digits left are the code's key,
 -- `weight` is that of the last place left, and the value has as many digits over. The measure is the number of digits left.
 -- Assumes nothing.
-use mathlib.Core.Path.{◌≡◌, refl, ap, sym, ◌∙◌}
-use Prim.Native.Nat.{◌+◌, ◌-◌, ◌*◌, ◌/◌, ◌%◌, ◌≤◌, ◌<◌, ◌^◌}
-use native.Mathlib.Omega.{arith}
-use borrow.Author.Rules.{rules}
+use mathlib.Core.Path.{◌≡◌}
+use Prim.Native.Nat.{◌+◌, ◌-◌, ◌/◌, ◌≤◌, ◌^◌}
 use Rattle.dial_code.specs.Digits.{digits}
 use Rattle.dial_code.specs.Key.{key_from}
-use Rattle.dial_code.specs.declared.Keyed.TheVariants.{Key}
-use Rattle.dial_code.proofs.Tests.{positive}
-use Rattle.dial_code.proofs.CountedKeys.{last_place, next_weight, weight_most, sent_below, all_weighed}
-use Rattle.dial_code.proofs.CountedKeys.{less_left, over, none_over, no_count, many, large, sent}
 use Rattle.dial_code.proofs.code_key.Given as goal
 
 abbrev pub invariant-loop-left : goal.invariant-loop-left

@@ -1,10 +1,7 @@
 -- is_gapless meets its contract. The loop's invariant: the word is the key of its digits where what is left, moved up, is the
 -- key of its own. The measure is the number of threes of places left. Assumes nothing.
-use mathlib.Core.Path.{◌≡◌, refl, sym, ◌∙◌}
-use Prim.Native.Nat.{◌*◌, ◌≤◌}
+use mathlib.Core.Path.{refl, sym, ◌∙◌}
 use native.Mathlib.Omega.{arith}
-use borrow.Author.Rules.{rules}
-use Rattle.dial_code.specs.Key.{is_gapless}
 use Rattle.dial_code.proofs.Gapless.{more_behind, nothing_left, ends_here, second_gap, first_gap, goes_on, all_read}
 use Rattle.dial_code.proofs.is_gapless.Goals as goal
 

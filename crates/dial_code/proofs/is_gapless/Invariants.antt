@@ -1,11 +1,8 @@
 -- is_gapless meets its contract. The loop's invariant: the word is the key of its digits where what is left, moved up, is the
 -- key of its own. The measure is the number of threes of places left. Assumes nothing.
-use mathlib.Core.Path.{◌≡◌, refl, sym, ◌∙◌}
+use mathlib.Core.Path.{◌≡◌}
 use Prim.Native.Nat.{◌*◌, ◌≤◌}
-use native.Mathlib.Omega.{arith}
-use borrow.Author.Rules.{rules}
 use Rattle.dial_code.specs.Key.{is_gapless}
-use Rattle.dial_code.proofs.Gapless.{more_behind, nothing_left, ends_here, second_gap, first_gap, goes_on, all_read}
 use Rattle.dial_code.proofs.is_gapless.Given as goal
 
 abbrev pub invariant-loop-left : goal.invariant-loop-left

@@ -3,9 +3,8 @@
 use mathlib.Core.Path.{◌≡◌, sym}
 use Prim.Native.Nat.{◌-◌, ◌*◌, ◌/◌, ◌%◌}
 use native.Mathlib.Omega.{arith}
-use borrow.Author.Rules.{rules}
 use Rattle.dial_code.specs.Key.{first_place}
-use Rattle.dial_code.proofs.KeyCode.{Reads, no_code, starts, value_few, ends, all_read, turn}
+use Rattle.dial_code.proofs.KeyCode.{no_code, starts, value_few, ends, all_read, turn}
 use Rattle.dial_code.proofs.key_code.Goals as goal
 
 pub returns-then-key-ge-KEYS_END : goal.returns-then-key-ge-KEYS_END

@@ -1,6 +1,5 @@
 -- key_or_zero meets its contract. Assumes nothing.
 use mathlib.Core.Path.{sym, ◌∙◌}
-use borrow.Author.Rules.{rules}
 use Rattle.dial_code.proofs.CountedKeys.{key_told, zero_told}
 use Rattle.dial_code.proofs.key_or_zero.Goals as goal
 

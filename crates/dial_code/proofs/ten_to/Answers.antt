@@ -1,6 +1,5 @@
 -- ten_to meets its contract, power by power. Assumes nothing.
 use native.Mathlib.Omega.{arith}
-use Rattle.dial_code.proofs.Tests.{from_on}
 use Rattle.dial_code.proofs.CountedKeys.{tens, last_ten}
 use Rattle.dial_code.proofs.ten_to.Goals as goal
 

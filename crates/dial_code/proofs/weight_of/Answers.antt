@@ -1,6 +1,5 @@
 -- weight_of meets its contract, place by place. Assumes nothing.
 use native.Mathlib.Omega.{arith}
-use Rattle.dial_code.proofs.Tests.{from_on}
 use Rattle.dial_code.proofs.CountedKeys.{weighs, last_weight}
 use Rattle.dial_code.proofs.weight_of.Goals as goal
 

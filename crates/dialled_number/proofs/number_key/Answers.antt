@@ -1,15 +1,12 @@
 -- number_key meets its contract. The loop's invariant: the rule from byte `i` on, with what the bytes before weigh, is the rule
 -- of the whole, and `weight` is that of the next place. The measure is the number of bytes left. Assumes nothing.
-use mathlib.Core.Path.{◌≡◌, refl, sym}
-use Prim.Native.Nat.{◌+◌, ◌-◌, ◌*◌, ◌≤◌, ◌<◌, ◌^◌}
+use mathlib.Core.Path.{refl, sym}
+use Prim.Native.Nat.{◌+◌, ◌-◌, ◌*◌, ◌≤◌, ◌^◌}
 use native.Mathlib.Omega.{arith}
-use borrow.Author.Rules.{rules}
 use borrow.Author.Tests.{lt-leb}
-use lib.ListN.{length}
 use lib.Dec.{leb}
-use Rattle.dialled_number.specs.NumberKey.{number_key}
 use Rattle.dial_code.proofs.Tests.{and_left_false, and_right_false}
-use Rattle.dialled_number.proofs.Spelling.{spelled_from, empty, too_long, leading_zero, starts}
+use Rattle.dialled_number.proofs.Spelling.{empty, too_long, leading_zero, starts}
 use Rattle.dialled_number.proofs.Spelling.{turn, not_ascii, ends, next_weight, weighs}
 use Rattle.dialled_number.proofs.number_key.Goals.{Else-b-gt57}
 use Rattle.dialled_number.proofs.number_key.Goals as goal

@@ -1,6 +1,5 @@
 -- sent_number_key meets its contract: a code's key, where it shows that the first digit is not 0. Assumes nothing.
 use mathlib.Core.Path.{sym, ◌∙◌}
-use borrow.Author.Rules.{rules}
 use Rattle.dialled_number.proofs.SentNumbers.{no_code, first_zero, first_other}
 use Rattle.dialled_number.proofs.sent_number_key.Goals as goal
 

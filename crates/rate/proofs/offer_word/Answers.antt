@@ -1,6 +1,5 @@
 -- `rate::offer_word` meets its contract. Assumes nothing.
 use mathlib.Core.Path.{ap, sym}
-use borrow.Author.Rules.{rules}
 use Rattle.rate.specs.OfferWord.{word_of}
 use Rattle.rate.proofs.offer_word.Goals as goal
 

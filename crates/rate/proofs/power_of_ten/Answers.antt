@@ -1,8 +1,7 @@
 -- `rate::power_of_ten` meets its contract. The loop keeps p ≡ 10 ^ (n - left), and left is the measure. Assumes nothing.
 use mathlib.Core.Path.{◌≡◌, ap, ◌∙◌}
-use Prim.Native.Nat.{ℕ, suc, ◌-◌, ◌≤◌, ◌^◌}
+use Prim.Native.Nat.{ℕ, suc, ◌-◌, ◌^◌}
 use native.Mathlib.Omega.{arith}
-use borrow.Author.Rules.{rules}
 use native.Mathlib.Nat.{pow-suc}
 use Rattle.rate.proofs.Prices.{power_most}
 use Rattle.rate.proofs.power_of_ten.Goals as goal

@@ -1,10 +1,6 @@
 -- `rate::power_of_ten` meets its contract. The loop keeps p ≡ 10 ^ (n - left), and left is the measure. Assumes nothing.
-use mathlib.Core.Path.{◌≡◌, ap, ◌∙◌}
-use Prim.Native.Nat.{ℕ, suc, ◌-◌, ◌≤◌, ◌^◌}
-use native.Mathlib.Omega.{arith}
-use borrow.Author.Rules.{rules}
-use native.Mathlib.Nat.{pow-suc}
-use Rattle.rate.proofs.Prices.{power_most}
+use mathlib.Core.Path.{◌≡◌}
+use Prim.Native.Nat.{◌-◌, ◌≤◌, ◌^◌}
 use Rattle.rate.proofs.power_of_ten.Given as goal
 
 abbrev pub invariant-loop-left : goal.invariant-loop-left

@@ -2,7 +2,6 @@
 use mathlib.Core.Path.{sym}
 use Prim.Native.Nat.{◌≤◌, ◌^◌}
 use native.Mathlib.Omega.{arith}
-use borrow.Author.Rules.{rules}
 use native.Mathlib.Nat.{mul-le-mul}
 use Rattle.rate.proofs.Prices.{exact, rounded, power_some, power_most}
 use Rattle.rate.proofs.scale.Goals as goal

@@ -1,7 +1,6 @@
 -- `rate::word_offer` meets its contract. Assumes nothing.
 use mathlib.Core.Path.{sym}
 use native.Mathlib.Omega.{arith}
-use borrow.Author.Rules.{rules}
 use borrow.Author.Tests.{eq-eqb, ne_eqb}
 use Rattle.rate.specs.OfferWord.{offer_of}
 use Rattle.rate.proofs.Words.{opens, no_word}

@@ -1,6 +1,5 @@
 -- `varint::in_range` meets its contract: a return for each side of the range. Assumes nothing.
 use mathlib.Core.Path.{sym}
-use borrow.Author.Rules.{rules}
 use Rattle.varint.proofs.Links.{on_refused}
 use Rattle.varint.proofs.Ranges.{is_in_range, under_range, over_range}
 use Rattle.varint.proofs.in_range.Goals as goal

@@ -1,6 +1,5 @@
 -- read_field meets its contract. Assumes nothing.
 use mathlib.Core.Path.{sym}
-use borrow.Author.Rules.{rules}
 use Rattle.varint.proofs.Model.{one_group}
 use Rattle.varint.proofs.read_field.Goals as goal
 

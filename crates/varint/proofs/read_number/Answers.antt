@@ -1,13 +1,10 @@
 -- read_number meets its contract. The loop's invariant: what the bytes ahead read as, put above the groups that are read, is what
 -- the rule reads at `at`. The measure is the number of groups left. Assumes nothing.
-use mathlib.Core.Path.{◌≡◌, refl, sym}
-use mathlib.Core.Logic.{⊎_elim}
-use Prim.Native.Nat.{ℕ, ◌-◌, ◌*◌, ◌<◌, ◌^◌}
+use mathlib.Core.Path.{refl, sym}
+use Prim.Native.Nat.{ℕ, ◌-◌, ◌<◌}
 use native.Mathlib.Omega.{arith}
-use borrow.Author.Rules.{rules}
-use lib.ListN.{drop}
-use Rattle.varint.specs.Reading.{groups, read_number}
-use Rattle.varint.proofs.Model.{onto, begins, spent, ends, last, longer, next, Room, room}
+use Rattle.varint.specs.Reading.{read_number}
+use Rattle.varint.proofs.Model.{begins, spent, ends, last, longer, next, Room, room}
 use Rattle.varint.proofs.read_number.Goals.{After-wide-b, else-b-eq0, then-b-eq0+else-place-ne1}
 use Rattle.varint.proofs.read_number.Goals as goal
 

@@ -1,13 +1,10 @@
 -- read_number meets its contract. The loop's invariant: what the bytes ahead read as, put above the groups that are read, is what
 -- the rule reads at `at`. The measure is the number of groups left. Assumes nothing.
-use mathlib.Core.Path.{◌≡◌, refl, sym}
-use mathlib.Core.Logic.{⊎_elim}
-use Prim.Native.Nat.{ℕ, ◌-◌, ◌*◌, ◌<◌, ◌^◌}
-use native.Mathlib.Omega.{arith}
-use borrow.Author.Rules.{rules}
+use mathlib.Core.Path.{◌≡◌}
+use Prim.Native.Nat.{◌*◌, ◌<◌, ◌^◌}
 use lib.ListN.{drop}
 use Rattle.varint.specs.Reading.{groups, read_number}
-use Rattle.varint.proofs.Model.{onto, begins, spent, ends, last, longer, next, Room, room}
+use Rattle.varint.proofs.Model.{onto}
 use Rattle.varint.proofs.read_number.Given as goal
 
 abbrev pub invariant-loop-left : goal.invariant-loop-left

@@ -1,6 +1,5 @@
 -- `varint::read_ranged` meets its contract. Assumes nothing.
 use mathlib.Core.Path.{ap, ◌∙◌}
-use borrow.Author.Rules.{rules}
 use Rattle.varint.specs.declared.Number.{Number}
 use Rattle.varint.specs.Ranged.{in_range, read_ranged}
 use Rattle.varint.proofs.read_ranged.Goals as goal

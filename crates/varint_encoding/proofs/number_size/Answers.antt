@@ -1,12 +1,11 @@
 -- number_size meets its contract. The loop's invariant: the groups counted and those of what is left are the number's. The measure
 -- is what is left. Assumes nothing.
-use mathlib.Core.Path.{◌≡◌, refl, ap}
-use Prim.Native.Nat.{ℕ, suc, ◌+◌, ◌<◌, ◌^◌}
+use mathlib.Core.Path.{refl, ap}
+use Prim.Native.Nat.{◌^◌}
 use native.Mathlib.Omega.{arith}
-use borrow.Author.Rules.{rules}
 use borrow.Author.Tests.{lt-ltb, le-ltb}
 use lib.ListN.{length}
-use Rattle.varint_encoding.specs.Encoding.{groups_of, encode, size_of}
+use Rattle.varint_encoding.specs.Encoding.{encode, size_of}
 use Rattle.varint_encoding.proofs.Groups.{single, more}
 use Rattle.varint_encoding.proofs.number_size.Goals as goal
 

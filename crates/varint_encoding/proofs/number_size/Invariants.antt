@@ -1,13 +1,9 @@
 -- number_size meets its contract. The loop's invariant: the groups counted and those of what is left are the number's. The measure
 -- is what is left. Assumes nothing.
-use mathlib.Core.Path.{◌≡◌, refl, ap}
+use mathlib.Core.Path.{◌≡◌}
 use Prim.Native.Nat.{ℕ, suc, ◌+◌, ◌<◌, ◌^◌}
-use native.Mathlib.Omega.{arith}
-use borrow.Author.Rules.{rules}
-use borrow.Author.Tests.{lt-ltb, le-ltb}
 use lib.ListN.{length}
-use Rattle.varint_encoding.specs.Encoding.{groups_of, encode, size_of}
-use Rattle.varint_encoding.proofs.Groups.{single, more}
+use Rattle.varint_encoding.specs.Encoding.{groups_of, encode}
 use Rattle.varint_encoding.proofs.number_size.Given as goal
 
 abbrev pub invariant-loop-m : goal.invariant-loop-m

@@ -1,6 +1,5 @@
 -- `varint_reader::place_after` meets its contract: one return for each answer. Assumes nothing.
 use mathlib.Core.Path.{ap, sym}
-use borrow.Author.Rules.{rules}
 use Rattle.varint_reader.specs.Standing.{place_after}
 use Rattle.varint_reader.proofs.place_after.Goals as goal
 

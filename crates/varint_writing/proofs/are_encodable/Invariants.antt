@@ -1,12 +1,9 @@
 -- are_encodable meets its contract. The loop's invariant: the numbers passed have an encoding. The measure is the numbers left.
 -- Assumes nothing.
-use mathlib.Core.Path.{◌≡◌, refl, sym, ◌∙◌}
+use mathlib.Core.Path.{◌≡◌}
 use Prim.Native.Nat.{◌-◌}
-use native.Mathlib.Omega.{arith}
-use borrow.Author.Rules.{rules}
 use lib.ListN.{length, drop}
 use Rattle.varint_encoding.specs.Several.{encodable_all}
-use Rattle.varint_encoding.proofs.Several.{turn_all, turn_none, rests}
 use Rattle.varint_writing.proofs.are_encodable.Given as goal
 
 abbrev pub invariant-loop-i : goal.invariant-loop-i

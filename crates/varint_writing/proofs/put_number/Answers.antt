@@ -1,13 +1,10 @@
 -- put_number meets its contract. The loop's invariant: the groups of what is left, stored from `i` on, give what the number's
 -- groups stored from `at` on give. The measure is what is left. Assumes nothing.
-use mathlib.Core.Path.{◌≡◌, refl, ap}
-use Prim.Native.Nat.{ℕ, suc, ◌+◌, ◌<◌, ◌^◌}
+use mathlib.Core.Path.{refl, ap}
 use native.Mathlib.Omega.{arith}
 use native.Mathlib.Numerals.{add-one}
-use borrow.Author.Rules.{rules}
 use lib.ListN.{length, length-set}
-use lib.Seq.{sets}
-use Rattle.varint_encoding.specs.Encoding.{groups_of, encode}
+use Rattle.varint_encoding.specs.Encoding.{encode}
 use Rattle.varint_encoding.proofs.Groups.{single, more, some_byte}
 use Rattle.varint_writing.proofs.put_number.Goals as goal
 

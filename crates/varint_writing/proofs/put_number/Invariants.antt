@@ -1,14 +1,10 @@
 -- put_number meets its contract. The loop's invariant: the groups of what is left, stored from `i` on, give what the number's
 -- groups stored from `at` on give. The measure is what is left. Assumes nothing.
-use mathlib.Core.Path.{◌≡◌, refl, ap}
+use mathlib.Core.Path.{◌≡◌}
 use Prim.Native.Nat.{ℕ, suc, ◌+◌, ◌<◌, ◌^◌}
-use native.Mathlib.Omega.{arith}
-use native.Mathlib.Numerals.{add-one}
-use borrow.Author.Rules.{rules}
-use lib.ListN.{length, length-set}
+use lib.ListN.{length}
 use lib.Seq.{sets}
 use Rattle.varint_encoding.specs.Encoding.{groups_of, encode}
-use Rattle.varint_encoding.proofs.Groups.{single, more, some_byte}
 use Rattle.varint_writing.proofs.put_number.Given as goal
 
 abbrev pub invariant-loop-m : goal.invariant-loop-m

@@ -1,15 +1,11 @@
 -- put_numbers meets its contract. The loop's invariant: the bytes of the numbers left, stored from `end` on, give what all the
 -- bytes stored from `at` on give. The measure is the numbers left. Assumes nothing.
-use mathlib.Core.Path.{◌≡◌, refl, ap, ◌∙◌}
+use mathlib.Core.Path.{◌≡◌}
 use mathlib.Core.Bool.{true}
-use Prim.Native.Nat.{◌+◌, ◌-◌, ◌<◌}
-use native.Mathlib.Omega.{arith}
-use borrow.Author.Rules.{rules}
+use Prim.Native.Nat.{◌+◌, ◌-◌}
 use lib.ListN.{length, drop}
 use lib.Seq.{sets}
 use Rattle.varint_encoding.specs.Several.{encode_all, encodable_all}
-use Rattle.varint_encoding.proofs.Several.{turn_first, turn_length, rests}
-use Rattle.varint_writing.proofs.Writes.{stores}
 use Rattle.varint_writing.proofs.put_numbers.Given as goal
 
 abbrev pub invariant-loop-done : goal.invariant-loop-done

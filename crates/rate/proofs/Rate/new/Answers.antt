@@ -1,5 +1,4 @@
 -- `rate::Rate::new` meets its contract. Assumes nothing.
-use borrow.Author.Rules.{rules}
 use borrow.Author.Tests.{le-leb, lt-leb}
 use Rattle.rate.specs.Price.{price_of}
 use mathlib.Core.Path.{sym}
