@@ -1,4 +1,6 @@
 // Writing a line of a notice (document 01, "Notice layout"; rates with 8 decimals as in a standing list, "Charging and writing").
+#![tactic(auto)]
+
 ghost use Rattle.std.specs.Prelude.{◌≡◌, length};
 ghost use Rattle.varint_encoding.specs.Several.{size_of_all};
 ghost use Rattle.varint_writing.specs.Writing.{answer_all, leaves_all};
