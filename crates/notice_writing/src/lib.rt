@@ -1,4 +1,6 @@
 // Writing the fields of a notice before its lines (document 01, "Notice layout").
+#![tactic(auto)]
+
 ghost use Rattle.std.specs.Prelude.{◌≡◌, ◌≤◌, length, take};
 ghost use Rattle.varint_encoding.specs.Several.{size_of_all};
 ghost use Rattle.varint_writing.specs.Writing.{answer_all, leaves_all};
