@@ -1,4 +1,6 @@
 // The countries that a partial notice names, as marks (document 01, "Effective days").
+#![tactic(auto)]
+
 ghost use Rattle.std.specs.Prelude.{◌≡◌, ◌≤◌, length};
 ghost use Rattle.country_code.specs.CountryCode.{country_of_key};
 ghost use Rattle.notice.specs.Lines.{lines_at};
