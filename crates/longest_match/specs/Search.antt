@@ -1,12 +1,11 @@
 -- The search by halving, over any words. In a sound book it finds what `Status` says (proofs/Halving.antt, Matching.antt); in any
 -- other, what it comes upon.
-use Rattle.std.specs.Prelude.{◌≡◌, refl, Bool, true, false, cond, List, [], ◌∷◌, ◌++◌, ℕ, zero, suc, ◌+◌, ◌-◌, ◌*◌, ◌/◌, min, eqb, leb, ltb}
+use Rattle.std.specs.Prelude.{Bool, true, false, cond, List, ℕ, zero, suc, ◌+◌, ◌-◌, ◌*◌, ◌/◌, min, eqb, leb, ltb}
 use Rattle.dial_code.specs.Digits.{most_digits}
-use Rattle.dial_code.specs.Key.{key, prefix_key}
-use Rattle.rate.specs.Price.{rate}
+use Rattle.dial_code.specs.Key.{prefix_key}
 use Rattle.rate.specs.OfferWord.{offer_of}
-use Rattle.rate.specs.declared.Offer.TheVariants.{Closed, Blocked, Open}
-use Rattle.book_words.specs.Layout.{header_words, entry_words, header, words_of_header, entry, no_entry, entry_at, words_of, book_of}
+use Rattle.rate.specs.declared.Offer.TheVariants.{Closed}
+use Rattle.book_words.specs.Layout.{header_words, entry_words, no_entry, entry_at}
 use Rattle.book.specs.Soundness.{headed_count}
 use Rattle.book.specs.Status.{held_offer}
 use Rattle.longest_match.specs.Match.{answer, standing}
@@ -67,119 +66,3 @@ tried ws w d (suc n) count bound =
 unfoldable pub best_found : List ℕ → ℕ → ℕ → Answer
 unfolding headed_count tried
 best_found ws w d = tried ws w d most_digits (headed_count ws) w
-
--- the first three of five places pass, none, all, the one of one, only the middle; no turn
-places :
-    halved (λ i. ltb i 3) 5 0 5
-    ∷ halved (λ i. false) 5 0 5
-    ∷ halved (λ i. true) 5 0 5
-    ∷ halved (λ i. true) 1 0 1
-    ∷ halved (λ i. eqb i 2) 5 0 5
-    ∷ halved (λ i. true) 0 0 5
-    ∷ []
-    ≡ 3 ∷ 0 ∷ 5 ∷ 1 ∷ 3 ∷ 0 ∷ []
-unfolding halved
-places = refl
-
-k1 : ℕ
-k1 = key (2 ∷ 3 ∷ 4 ∷ 8 ∷ 0 ∷ [])
-
-k2 : ℕ
-k2 = key (2 ∷ 3 ∷ 4 ∷ 8 ∷ [])
-
--- P1's book
-one : List ℕ
-one = book_of (header_words + entry_words) 7 100 100 (entry k1 100 589824000259 ∷ [])
-
--- 2348 blocked from day 105 on, 23480 open from day 100 to 109: in order, and the other way round
-three : List ℕ
-three = book_of (header_words + 3 * entry_words + 1) 7 100 110 (entry k2 105 1 ∷ entry k1 100 259 ∷ entry k1 110 0 ∷ [])
-
-turned : List ℕ
-turned = book_of (header_words + 3 * entry_words + 1) 7 100 110 (entry k1 110 0 ∷ entry k1 100 259 ∷ entry k2 105 1 ∷ [])
-
--- the day before, the day itself, keys before and behind; none to search
-one_found :
-    found_up_to one 1 k1 99
-    ∷ found_up_to one 1 k1 100
-    ∷ found_up_to one 1 k2 100
-    ∷ found_up_to one 1 (k1 + 1) 100
-    ∷ found_up_to one 0 k1 100
-    ∷ []
-    ≡ 0 ∷ 1 ∷ 0 ∷ 1 ∷ 0 ∷ []
-unfolding found_up_to one book_of k1 k2 key
-one_found = refl
-
--- the entries in order, and two of them that a wrong order hides
-three_found :
-    found_up_to three 3 k2 105
-    ∷ found_up_to three 3 k1 99
-    ∷ found_up_to three 3 k1 109
-    ∷ found_up_to three 3 k1 110
-    ∷ found_up_to turned 3 k1 109
-    ∷ found_up_to turned 3 k2 105
-    ∷ []
-    ≡ 1 ∷ 1 ∷ 2 ∷ 3 ∷ 3 ∷ 0 ∷ []
-unfolding found_up_to three turned book_of k1 k2 key
-three_found = refl
-
--- the words of what is found there
-own_words :
-    own_word (last_entry three 1) k2
-    ∷ own_word (last_entry three 1) k1
-    ∷ own_word (last_entry three 2) k1
-    ∷ own_word (last_entry three 3) k1
-    ∷ own_word (last_entry turned 3) k1
-    ∷ own_word (last_entry turned 0) k2
-    ∷ []
-    ≡ 1 ∷ 0 ∷ 259 ∷ 0 ∷ 0 ∷ 0 ∷ []
-unfolding own_word last_entry three turned book_of k1 k2 key
-own_words = refl
-
--- 2 open from day 100 on, 2348 blocked from day 105 on, 23480 open from day 100 to 104
-layered : List ℕ
-layered =
-    book_of (header_words + 4 * entry_words) 7 100 105
-    (entry (key (2 ∷ [])) 100 260 ∷ entry k2 105 1 ∷ entry k1 100 259 ∷ entry k1 105 0 ∷ [])
-
--- 234806 and 23481 on some days, and a word that is no key
-best_found_law :
-    best_found three (key (2 ∷ 3 ∷ 4 ∷ 8 ∷ 0 ∷ 6 ∷ [])) 99
-    ∷ best_found three (key (2 ∷ 3 ∷ 4 ∷ 8 ∷ 0 ∷ 6 ∷ [])) 105
-    ∷ best_found three (key (2 ∷ 3 ∷ 4 ∷ 8 ∷ 1 ∷ [])) 105
-    ∷ best_found three (key (2 ∷ 3 ∷ 4 ∷ 8 ∷ 0 ∷ [])) 110
-    ∷ best_found three (k1 + 5) 105
-    ∷ []
-    ≡ answer 0 Closed
-    ∷ answer k1 (Open (rate 0) 1 1)
-    ∷ answer k2 Blocked
-    ∷ answer k2 Blocked
-    ∷ answer k1 (Open (rate 0) 1 1)
-    ∷ []
-unfolding best_found three book_of k1 k2 key offer_of
-best_found_law = refl
-
--- 234806 by its first five and four digits, 23481 and 23470 by their first, 11 by none; no sound header, and a wrong order
-layers_found :
-    best_found layered (key (2 ∷ 3 ∷ 4 ∷ 8 ∷ 0 ∷ 6 ∷ [])) 104
-    ∷ best_found layered (key (2 ∷ 3 ∷ 4 ∷ 8 ∷ 0 ∷ 6 ∷ [])) 105
-    ∷ best_found layered (key (2 ∷ 3 ∷ 4 ∷ 8 ∷ 1 ∷ [])) 104
-    ∷ best_found layered (key (2 ∷ 3 ∷ 4 ∷ 7 ∷ 0 ∷ [])) 105
-    ∷ best_found layered (key (1 ∷ 1 ∷ [])) 105
-    ∷ best_found [] k1 105
-    ∷ best_found (words_of_header (header 2 7 100 100) ++ words_of (entry k1 100 259 ∷ [])) k1 100
-    ∷ best_found turned k1 109
-    ∷ best_found turned 0 109
-    ∷ []
-    ≡ answer k1 (Open (rate 0) 1 1)
-    ∷ answer k2 Blocked
-    ∷ answer (key (2 ∷ [])) (Open (rate 0) 1 2)
-    ∷ answer (key (2 ∷ [])) (Open (rate 0) 1 2)
-    ∷ answer 0 Closed
-    ∷ answer 0 Closed
-    ∷ answer 0 Closed
-    ∷ answer 0 Closed
-    ∷ answer 0 Closed
-    ∷ []
-unfolding best_found layered turned book_of k1 k2 key offer_of
-layers_found = refl

@@ -7,3 +7,4 @@ pub mod GroupStatus
 pub mod MergedStatus
 pub mod MergedSound
 pub mod MergedLength
+pub mod Examples

@@ -1,6 +1,6 @@
 -- The entries of a new book, part by part as they are written: between the lines of a notice the entries of codes that it does
 -- not list, and at each line the entries of the line's code.
-use Rattle.std.specs.Prelude.{◌≡◌, refl, Bool, true, false, cond, ◌&&◌, ◌||◌, List, [], ◌∷◌, ◌++◌, ℕ, eqb, ltb}
+use Rattle.std.specs.Prelude.{Bool, false, cond, ◌&&◌, ◌||◌, List, [], ◌∷◌, ◌++◌, ℕ, eqb, ltb}
 use Rattle.book_words.specs.Layout.{entry}
 use Rattle.book_words.specs.declared.Entry.{Entry}
 
@@ -70,12 +70,3 @@ line_rest c es = rest_after c.key (rest_from c.key es)
 unfoldable pub merged : ℕ → (ℕ → Bool) → ℕ → List Entry → List Entry → List Entry
 merged end closes day es [] = gap_below end closes day es
 merged end closes day es (c ∷ cs) = line_entries c closes day es ++ merged end closes day (line_rest c es) cs
-
--- an old book of three codes, of which 5 is listed and all unlisted codes are closed on day 7
-example :
-    merged 100 (λ k. true) 7
-    (entry 3 1 259 ∷ entry 3 8 1 ∷ entry 5 1 259 ∷ entry 5 9 0 ∷ entry 6 8 1 ∷ entry 9 2 259 ∷ entry 9 4 0 ∷ [])
-    (entry 4 6 1 ∷ entry 5 7 1 ∷ [])
-    ≡ entry 3 1 259 ∷ entry 3 7 0 ∷ entry 4 6 1 ∷ entry 5 1 259 ∷ entry 5 7 1 ∷ entry 9 2 259 ∷ entry 9 4 0 ∷ []
-unfolding merged line_entries line_rest gap_below unlisted_as closed_one goes_on rest_from listed_group placed rest_after
-example = refl

@@ -1,2 +1,3 @@
 -- The laws of rating one call.
 pub mod Calls
+pub mod Examples

@@ -1,15 +1,10 @@
 -- are_sound meets its contract. The loop's invariant: all entries are sound where those left are sound after the one before, which is
 -- of an allowed code. The measure is the number of entries left. Assumes nothing.
-use mathlib.Core.Path.{◌≡◌, sym, ◌∙◌}
-use Prim.Native.Nat.{◌+◌, ◌*◌, ◌≤◌}
+use mathlib.Core.Path.{sym, ◌∙◌}
 use native.Mathlib.Omega.{arith}
-use borrow.Author.Rules.{rules}
-use borrow.Author.Tests.{not-true, not-false}
 use Rattle.dial_code.proofs.Tests.{and_left_false, and_left_true}
-use Rattle.book_words.specs.Layout.{header_words, entry_words, most_words, entries_from}
-use Rattle.book.specs.Soundness.{sound_entries, sound_after}
 use Rattle.book.proofs.SoundRows.{sound_none, sound_first, sound_turn, sound_end}
-use Rattle.book.proofs.SoundLists.{Allowed, begins_facts, follows_facts}
+use Rattle.book.proofs.SoundLists.{begins_facts, follows_facts}
 use Rattle.book.proofs.are_sound.Goals as goal
 
 pub returns-then-count-eq0 : goal.returns-then-count-eq0

@@ -1,6 +1,5 @@
 -- book_refusal meets its contract: 20 for too few words, 21 for a book that is not sound. Assumes nothing.
 use mathlib.Core.Path.{sym, ◌∙◌}
-use borrow.Author.Rules.{rules}
 use Rattle.book.proofs.Usable.{short_book, unsound_book, usable_book}
 use Rattle.book.proofs.book_refusal.Goals as goal
 

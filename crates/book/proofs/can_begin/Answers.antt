@@ -1,7 +1,5 @@
 -- can_begin meets its contract: not closed, in range, and a code's key. Assumes nothing.
 use mathlib.Core.Path.{sym, ◌∙◌}
-use borrow.Author.Rules.{rules}
-use borrow.Author.Tests.{not-true, not-false}
 use Rattle.book.proofs.Rules.{not_open, by_key}
 use Rattle.book.proofs.can_begin.Goals as goal
 

@@ -2,8 +2,6 @@
 -- nothing.
 use mathlib.Core.Path.{sym, ◌∙◌}
 use native.Mathlib.Omega.{arith}
-use borrow.Author.Rules.{rules}
-use borrow.Author.Tests.{not-true, not-false}
 use Rattle.allowed_code.proofs.CodeLaws.{after_code}
 use Rattle.book.proofs.Rules.{not_open, by_key, not_later, repeated, changed, smaller_key, larger_key}
 use Rattle.book.proofs.can_follow.Goals as goal

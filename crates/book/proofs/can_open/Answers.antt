@@ -1,6 +1,5 @@
 -- can_open meets its contract. Assumes nothing.
 use mathlib.Core.Path.{sym, ◌∙◌}
-use borrow.Author.Rules.{rules}
 use borrow.Author.Tests.{eq-eqb, ne_eqb}
 use Rattle.book.proofs.can_open.Goals as goal
 

@@ -1,6 +1,5 @@
 -- fresh meets its contract: a refusal leaves the words as they were, any other call clears them and sets one. Assumes nothing.
 use native.Mathlib.Omega.{arith}
-use borrow.Author.Rules.{rules}
 use Rattle.book.proofs.FreshBooks.{long_period, few_words, refused, done}
 use Rattle.slice_laws.proofs.Clauses.{both}
 use Rattle.book.proofs.fresh.Goals as goal

@@ -1,7 +1,5 @@
 -- headed_count meets its contract: none without a sound header, else the count in it. Assumes nothing.
 use mathlib.Core.Path.{sym, ◌∙◌}
-use borrow.Author.Rules.{rules}
-use borrow.Author.Tests.{not-true, not-false}
 use Rattle.book.proofs.Headers.{no_words, no_header, headed_count_law}
 use Rattle.book.proofs.headed_count.Goals as goal
 

@@ -1,6 +1,5 @@
 -- in_range meets its contract: the day, then the offer word. Assumes nothing.
 use mathlib.Core.Path.{sym, ◌∙◌}
-use borrow.Author.Rules.{rules}
 use Rattle.book.proofs.Rules.{late, by_word}
 use Rattle.book.proofs.in_range.Goals as goal
 

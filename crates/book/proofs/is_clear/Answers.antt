@@ -1,11 +1,7 @@
 -- is_clear meets its contract. The loop's invariant: the words from the first on are all 0 where those from `i` on are. The
 -- measure is the number of words left. Assumes nothing.
-use mathlib.Core.Path.{◌≡◌, refl, sym, ◌∙◌}
-use Prim.Native.Nat.{◌-◌}
+use mathlib.Core.Path.{refl, sym, ◌∙◌}
 use native.Mathlib.Omega.{arith}
-use borrow.Author.Rules.{rules}
-use lib.ListN.{length, drop}
-use Rattle.book.specs.Soundness.{all_zero}
 use Rattle.book.proofs.SoundRows.{not_zero, one_zero, all_seen}
 use Rattle.book.proofs.is_clear.Goals as goal
 

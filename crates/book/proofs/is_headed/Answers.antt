@@ -1,9 +1,6 @@
 -- `book::is_headed` meets its contract. Assumes nothing.
 use mathlib.Core.Path.{ap, sym}
-use Prim.Native.Nat.{◌-◌}
 use native.Mathlib.Omega.{arith}
-use borrow.Author.Rules.{rules}
-use borrow.Author.Rules.{rules}
 use Rattle.book_words.specs.declared.Header.{Header}
 use Rattle.book.proofs.Rules.{count_over, period_over, received_over, by_latest}
 use Rattle.book.proofs.is_headed.Goals as goal

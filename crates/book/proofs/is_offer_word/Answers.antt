@@ -1,6 +1,5 @@
 -- is_offer_word meets its contract: a word that stands for an offer is an offer word. Assumes nothing.
 use mathlib.Core.Path.{ap, sym, ◌∙◌}
-use borrow.Author.Rules.{rules}
 use Rattle.book.specs.Soundness.{is_held, is_offer_word}
 use Rattle.book.proofs.is_offer_word.Goals as goal
 

@@ -1,8 +1,6 @@
 -- is_sound meets its contract: header, entries and unused words in turn. Assumes nothing.
 use mathlib.Core.Path.{◌≡◌, ap, sym, ◌∙◌}
 use native.Mathlib.Omega.{arith}
-use borrow.Author.Rules.{rules}
-use borrow.Author.Tests.{not-true, not-false}
 use Prim.Native.Nat.{ℕ, ◌+◌, ◌*◌}
 use lib.ListN.{drop}
 use Rattle.book_words.specs.Layout.{header_words, entry_words, entries_from, entries_of}

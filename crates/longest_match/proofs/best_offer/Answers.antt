@@ -1,13 +1,9 @@
 -- best_offer meets its contract. The loop's invariant: what is left to try, of `n` places or fewer, gives the answer; `place` is
 -- the weight of the n-th place, and `quotient` the key's by it. The measure is `n`. Assumes nothing.
 use mathlib.Core.Path.{◌≡◌, refl, sym, ◌∙◌}
-use mathlib.Core.Logic.{⊎_elim}
-use Prim.Native.Nat.{◌-◌, ◌*◌, ◌/◌, ◌^◌, ◌≤◌, min}
+use Prim.Native.Nat.{◌-◌, ◌*◌, min}
 use native.Mathlib.Omega.{arith}
-use borrow.Author.Rules.{rules}
-use lib.ListN.{length}
 use Rattle.dial_code.proofs.CountedKeys.{next_weight, weight_most}
-use Rattle.book_words.specs.Layout.{header_words, entry_words}
 use Rattle.longest_match.specs.Search.{tried, best_found}
 use Rattle.longest_match.specs.Match.{standing}
 use Rattle.book.proofs.Headers.{count_room}

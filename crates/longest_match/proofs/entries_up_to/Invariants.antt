@@ -1,11 +1,8 @@
 -- entries_up_to meets its contract. The loop's invariant: halving goes on from `lo` to `hi`, with turns enough. The measure is
 -- how far the two are apart. Assumes nothing.
-use mathlib.Core.Path.{◌≡◌, sym, ◌∙◌}
+use mathlib.Core.Path.{◌≡◌}
 use Prim.Native.Nat.{ℕ, ◌-◌, ◌≤◌}
-use native.Mathlib.Omega.{arith}
-use borrow.Author.Rules.{rules}
 use Rattle.longest_match.specs.Search.{halved, up_to, found_up_to}
-use Rattle.longest_match.proofs.Halving.{halving, goes_behind, goes_before, stays, tested}
 use Rattle.longest_match.proofs.entries_up_to.Given as goal
 
 abbrev pub invariant-loop-lo : goal.invariant-loop-lo

@@ -1,6 +1,5 @@
 -- `longest_match::entry_in` meets its contract. Assumes nothing.
 use mathlib.Core.Path.{refl}
-use borrow.Author.Rules.{rules}
 use Rattle.book_words.specs.Layout.{entry_at}
 use Rattle.longest_match.proofs.entry_in.Goals as goal
 

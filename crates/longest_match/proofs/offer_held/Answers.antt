@@ -1,6 +1,5 @@
 -- offer_held meets its contract: the offer of an offer word, or closed. Assumes nothing.
 use mathlib.Core.Path.{ap, sym, ◌∙◌}
-use borrow.Author.Rules.{rules}
 use Rattle.book.specs.Status.{held_offer}
 use Rattle.longest_match.proofs.offer_held.Goals as goal
 

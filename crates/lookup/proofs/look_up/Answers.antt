@@ -1,7 +1,5 @@
 -- look_up meets its contract: 20, 21, 40 and 41 in turn, else the longest match of the number's key. Assumes nothing.
 use mathlib.Core.Path.{◌≡◌, ap, sym, ◌∙◌}
-use borrow.Author.Rules.{rules}
-use borrow.Author.Tests.{not-true, not-false}
 use Rattle.longest_match.specs.Match.{matched}
 use Rattle.book.specs.Answers.{book_refusal}
 use Rattle.lookup.specs.declared.Lookup.TheVariants.{Found, Refused}
