@@ -9,7 +9,7 @@ use borrow.Author.Tests.{ne_eqb, leb-true, le-leb}
 use lib.Dec.{eqb, leb}
 use lib.ListN.{length, get_or, drop, length-drop, drop_of_length-le}
 use lib.Seq.{drop-cons}
-use Rattle.dial_code.specs.Digits.{every, is_ascii, is_digit, digit_of, digits, value}
+use Rattle.dial_code.specs.Digits.{every, is_ascii, is_digit, digit_of}
 use Rattle.dial_code.specs.declared.Code.{Code}
 use Rattle.allowed_code.specs.Code.{is_code}
 use Rattle.dial_code.proofs.Tests.{below, equal, above, order, both, and_left_true, and_left_false, and_right_false}

@@ -13,7 +13,7 @@ use Rattle.allowed_code.specs.Code.{is_code}
 use Rattle.dial_code.proofs.DigitLaws.{value_below, digits_value}
 use Rattle.dial_code.proofs.Tests.{both, and_left_true}
 use Rattle.code_entry.specs.Range.{range_of, codes_from, range_codes, Writable, most_codes}
-use Rattle.code_entry.specs.Entry.{after, entry_of, rest_of, is_no_comma, is_some, code_of, is_typed, all_codes, Typed}
+use Rattle.code_entry.specs.Entry.{entry_of, rest_of, is_no_comma, is_some, code_of, is_typed, all_codes, Typed}
 use Rattle.code_entry.specs.Entry.{Single, Joined, Stray, typed, one_code, whole_range, code_range, typed_codes, entry_codes}
 use Rattle.code_entry.specs.Entry.{own_code}
 use Rattle.code_entry.specs.declared.CodeRange.{CodeRange}

@@ -6,7 +6,7 @@ use native.Mathlib.Nat.{pow-le-pow_right}
 use native.Mathlib.Omega.{arith}
 use borrow.Author.Tests.{le-leb, lt-leb, eq-eqb, ne_eqb, leb-true}
 use lib.Dec.{eqb, leb, lit<}
-use Rattle.dial_code.specs.Digits.{digits, value}
+use Rattle.dial_code.specs.Digits.{digits}
 use Rattle.dial_code.specs.declared.Code.{Code}
 use Rattle.allowed_code.specs.Code.{is_code}
 use Rattle.dial_code.proofs.DigitLaws.{length_digits, value_digits}

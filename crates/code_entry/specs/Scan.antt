@@ -1,5 +1,5 @@
 -- What the scan of a cell finds: digits as they are counted one after the other, and the bytes after a code.
-use Rattle.std.specs.Prelude.{◌≡◌, refl, Bool, true, false, cond, ◌&&◌, List, [], ◌∷◌, ℕ, ◌+◌, ◌*◌, ◌^◌, ◌<◌, eqb, ltb, length, drop}
+use Rattle.std.specs.Prelude.{◌≡◌, refl, Bool, true, cond, ◌&&◌, List, [], ◌∷◌, ℕ, ◌+◌, ◌*◌, ◌^◌, ◌<◌, eqb, ltb, length, drop}
 use Rattle.refusal.specs.Refusal.{entry_not_allowed}
 use Rattle.dial_code.specs.Digits.{most_digits, every, is_ascii, digit_of, digits}
 use Rattle.dial_code.specs.declared.Code.{Code}

@@ -1,15 +1,10 @@
 -- are_codes meets its contract. The loop's invariant: the codes from `value` on are allowed where all are. The measure is the
 -- number of codes left. Assumes nothing.
-use mathlib.Core.Path.{◌≡◌, refl, sym, ◌∙◌}
-use Prim.Native.Nat.{◌+◌, ◌^◌, ◌≤◌}
+use mathlib.Core.Path.{refl, sym, ◌∙◌}
 use native.Mathlib.Nat.{pow-le-pow_right}
 use native.Mathlib.Omega.{arith}
-use borrow.Author.Rules.{rules}
-use borrow.Author.Tests.{not-true, not-false}
 use lib.Dec.{lit<}
 use Rattle.dial_code.proofs.Tests.{and_left_true, and_left_false}
-use Rattle.code_entry.specs.Range.{codes_from}
-use Rattle.code_entry.specs.Entry.{all_codes}
 use Rattle.code_entry.proofs.Ranges.{codes_none, codes_step, long_codes}
 use Rattle.code_entry.proofs.are_codes.Goals as goal
 

@@ -1,7 +1,5 @@
 -- the key of the code
 use mathlib.Core.Path.{◌≡◌, sym, ◌∙◌}
-use Prim.Native.Nat.{◌-◌}
-use borrow.Author.Rules.{rules}
 use Rattle.dial_code.specs.Key.{code_key}
 use Rattle.dial_code.specs.declared.Keyed.TheVariants.{Key}
 use Rattle.allowed_code.proofs.SentCodes.{unwritten, first_zero, no_country, some_country}

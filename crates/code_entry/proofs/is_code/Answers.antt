@@ -1,7 +1,6 @@
 -- is_code meets its contract. Assumes nothing.
 use mathlib.Core.Path.{sym}
 use native.Mathlib.Omega.{arith}
-use borrow.Author.Rules.{rules}
 use Rattle.dial_code.proofs.CountedKeys.{few_tens}
 use Rattle.code_entry.proofs.CodeTests.{by_first, over_long}
 use Rattle.code_entry.proofs.is_code.Goals as goal

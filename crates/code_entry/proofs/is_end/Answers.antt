@@ -1,6 +1,5 @@
 -- is_end meets its contract. Assumes nothing.
 use mathlib.Core.Path.{sym}
-use borrow.Author.Rules.{rules}
 use Rattle.code_entry.proofs.Scanning.{end_none, end_byte}
 use Rattle.code_entry.proofs.is_end.Goals as goal
 

@@ -1,9 +1,7 @@
 -- is_short_code meets its contract. Assumes nothing.
 use mathlib.Core.Path.{sym, ◌∙◌}
-use Prim.Native.Nat.{◌-◌}
 use native.Mathlib.Omega.{arith}
 use borrow.Author.Tests.{eq-eqb, ne_eqb}
-use borrow.Author.Rules.{rules}
 use Rattle.code_entry.proofs.CodeTests.{one_digit_law}
 use Rattle.code_entry.proofs.is_short_code.Goals as goal
 

@@ -2,7 +2,6 @@
 use mathlib.Core.Path.{sym}
 use Prim.Native.Nat.{◌+◌, ◌*◌, ◌^◌, ◌<◌}
 use native.Mathlib.Omega.{arith}
-use borrow.Author.Rules.{rules}
 use Rattle.code_entry.proofs.Counting.{push_more, push_none, push_fits}
 use Rattle.code_entry.proofs.push_digit.Goals.{Then-code-lt-MOST_DIGITS}
 use Rattle.code_entry.proofs.push_digit.Goals as goal

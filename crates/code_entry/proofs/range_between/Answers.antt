@@ -3,9 +3,6 @@ use mathlib.Core.Path.{◌≡◌, sym, ◌∙◌}
 use mathlib.Core.Bool.{true}
 use Prim.Native.Nat.{◌+◌, ◌-◌}
 use native.Mathlib.Omega.{arith}
-use borrow.Author.Rules.{rules}
-use borrow.Author.Tests.{not-true, not-false}
-use lib.ListN.{length}
 use Rattle.code_entry.specs.Range.{range_of}
 use Rattle.code_entry.specs.Entry.{code_range, whole_range}
 use Rattle.code_entry.specs.Scan.{digits_of}

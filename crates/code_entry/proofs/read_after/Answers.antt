@@ -1,10 +1,7 @@
 -- read_after meets its contract. Assumes nothing.
 use mathlib.Core.Path.{◌≡◌, sym, ◌∙◌}
-use mathlib.Core.Logic.{⊎_elim}
 use Prim.Native.Nat.{◌<◌}
 use native.Mathlib.Omega.{arith}
-use borrow.Author.Rules.{rules}
-use borrow.Author.Tests.{not-true, not-false}
 use lib.ListN.{length, get_or}
 use Rattle.code_entry.proofs.Entries.{refused, read, Blanks, blanks_read, blank_entry, dash_part, after_stray, after_blank}
 use Rattle.code_entry.proofs.read_after.Goals.{After-skip_blanks-end, else-at-cell, then-at-cell+else-cell-at-eq45}

@@ -2,15 +2,11 @@
 -- the first one. The measure is the number of bytes left. Assumes nothing.
 use mathlib.Core.Path.{◌≡◌, refl, sym, ◌∙◌}
 use mathlib.Core.Bool.{true}
-use Prim.Native.Nat.{◌-◌, ◌≤◌}
 use native.Mathlib.Omega.{arith}
-use borrow.Author.Rules.{rules}
 use borrow.Author.Tests.{le-leb, lt-leb}
 use lib.Dec.{leb}
-use lib.ListN.{length, drop}
 use Rattle.dial_code.specs.Digits.{is_ascii}
 use Rattle.dial_code.proofs.Tests.{and_left_true, and_left_false, and_right_false}
-use Rattle.code_entry.specs.Scan.{Held, run_of}
 use Rattle.code_entry.proofs.Counting.{push_held, run_ends, run_goes, run_stops}
 use Rattle.code_entry.proofs.read_digits.Goals as goal
 

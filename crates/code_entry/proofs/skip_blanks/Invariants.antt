@@ -1,13 +1,9 @@
 -- skip_blanks meets its contract. The loop's invariant: the blanks from `at` on end where those from the start do. The measure is
 -- the number of bytes left. Assumes nothing.
-use mathlib.Core.Path.{◌≡◌, refl, ap}
+use mathlib.Core.Path.{◌≡◌}
 use Prim.Native.Nat.{◌+◌, ◌-◌, ◌≤◌}
-use native.Mathlib.Omega.{arith}
-use borrow.Author.Rules.{rules}
-use borrow.Author.Tests.{eq-eqb, ne_eqb}
-use lib.ListN.{length, get_or, drop}
+use lib.ListN.{length, drop}
 use Rattle.code_entry.specs.Entry.{leading, is_blank}
-use Rattle.code_entry.proofs.Scanning.{none_left, stops, passes}
 use Rattle.code_entry.proofs.skip_blanks.Given as goal
 
 abbrev pub invariant-loop-at : goal.invariant-loop-at
