@@ -9,8 +9,7 @@ use native.Mathlib.Omega.{arith}
 use borrow.Author.Tests.{ltb-true}
 use lib.Dec.{ltb}
 use lib.ListN.{length, length-append}
-use Rattle.dial_code.specs.Digits.{digits}
-use Rattle.dial_code.specs.Key.{key, keys_end, key_or_zero}
+use Rattle.dial_code.specs.Key.{keys_end, key_or_zero}
 use Rattle.dial_code.proofs.Tests.{both}
 use Rattle.dial_code.proofs.CountedKeys.{key_so}
 use Rattle.code_entry.specs.Range.{range_keys, Writable, keys_from}

@@ -1,13 +1,11 @@
 -- A cell of codes, as suppliers type them (document 02, request 1): what it names is a list of codes, and the answer is their keys
 -- rising, each once.
-use Rattle.std.specs.Prelude.{◌≡◌, refl, Bool, true, false, cond, ◌&&◌, List, [], ◌∷◌, ◌++◌, map, ℕ, ◌+◌, ◌*◌, eqb, ltb, length, replicate}
-use Rattle.std.proofs.lemmas.List.Edits.{sets}
+use Rattle.std.specs.Prelude.{◌≡◌, refl, Bool, cond, ◌&&◌, List, [], ◌∷◌, ◌++◌, map, ℕ, eqb, ltb, length, replicate}
 use Rattle.refusal.specs.Refusal.{keys_too_many}
 use Rattle.dial_code.specs.Digits.{every, digits}
 use Rattle.dial_code.specs.Key.{key}
 use Rattle.code_entry.specs.Range.{range_of, range_keys}
-use Rattle.code_entry.specs.Entry.{blank, comma, dash, is_blank, is_some, entry_of, entry_codes, own_code, num, span}
-use Rattle.code_entry.specs.declared.CodeRange.{CodeRange}
+use Rattle.code_entry.specs.Entry.{blank, comma, is_blank, is_some, entry_of, entry_codes, own_code, num, span}
 use Rattle.code_entry.specs.declared.Named.{Named}
 use Rattle.code_entry.specs.declared.Named.TheVariants.{Codes, Refused}
 

@@ -1,6 +1,6 @@
 -- The codes of a cell counted without memory: each code has a number of its own, its digits behind a 1, so that a range is a stretch
 -- of numbers, and the distinct codes are counted stretch by stretch.
-use Rattle.std.specs.Prelude.{◌≡◌, refl, Bool, true, false, cond, ◌&&◌, ◌||◌, List, [], ◌∷◌, ◌++◌, map, ℕ, ◌+◌, ◌-◌, ◌*◌, ◌^◌, max, eqb, leb, ltb}
+use Rattle.std.specs.Prelude.{◌≡◌, refl, Bool, true, false, cond, ◌&&◌, ◌||◌, List, [], ◌∷◌, ◌++◌, map, ℕ, ◌+◌, ◌-◌, ◌*◌, ◌^◌, max, eqb, ltb}
 use Rattle.dial_code.specs.Digits.{most_digits, digits}
 use Rattle.dial_code.specs.Key.{key, keys_end}
 use Rattle.code_entry.specs.Range.{range_of, range_keys}

@@ -1,7 +1,5 @@
 -- added meets its contract. Assumes nothing.
 use mathlib.Core.Path.{sym, ◌∙◌}
-use Prim.Native.Nat.{◌-◌}
-use borrow.Author.Rules.{rules}
 use Rattle.code_cell.proofs.Looks.{added_over, added_same, added_new}
 use Rattle.code_cell.proofs.added.Goals as goal
 

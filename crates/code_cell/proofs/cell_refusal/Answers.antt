@@ -1,10 +1,8 @@
 -- a cell that does not mean the country's own code
 use mathlib.Core.Path.{◌≡◌, ap, sym, ◌∙◌}
 use mathlib.Core.Bool.{false}
-use Prim.Native.Nat.{◌-◌}
 use borrow.Author.Tests.{leb-true, leb-false}
 use lib.ListN.{length}
-use borrow.Author.Rules.{rules}
 use Rattle.code_cell.specs.Cell.{refusal_of, is_own}
 use Rattle.code_cell.proofs.Refusals.{own_cell, cell_few, cell_many, look_refusal, look_few}
 use Rattle.code_cell.proofs.Orders.{ordered_many}

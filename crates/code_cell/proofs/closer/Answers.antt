@@ -1,8 +1,7 @@
 -- the range's first number, as it is counted
 use mathlib.Core.Path.{◌≡◌}
-use Prim.Native.Nat.{◌+◌, ◌-◌}
+use Prim.Native.Nat.{◌+◌}
 use native.Mathlib.Omega.{arith}
-use borrow.Author.Rules.{rules}
 use Rattle.code_cell.proofs.Looks.{low_so, over, cut, cut_not, ahead, ahead_not}
 use Rattle.code_cell.proofs.Marks.{high_most}
 use Rattle.code_cell.specs.Count.{low_of}

@@ -1,15 +1,11 @@
 -- fits meets its contract. Assumes nothing.
-use mathlib.Core.Path.{◌≡◌, ap, sym, ◌∙◌}
+use mathlib.Core.Path.{◌≡◌}
 use mathlib.Core.List.{[]}
-use Prim.Native.Nat.{ℕ, ◌+◌, ◌-◌, ◌≤◌, ◌<◌}
-use native.Mathlib.Omega.{arith}
-use borrow.Author.Rules.{rules}
+use Prim.Native.Nat.{◌-◌, ◌≤◌}
 use lib.ListN.{length}
 use lib.Dec.{leb}
-use Rattle.code_cell.specs.Cell.{entries_of}
 use Rattle.code_cell.specs.Count.{marks_end, all_keys}
-use Rattle.code_cell.proofs.Scans.{left, all_left, none_left, some_left}
-use Rattle.code_cell.proofs.Refusals.{ranges_of, codes_left, good_writable, spent, no_room, none_more}
+use Rattle.code_cell.proofs.Refusals.{ranges_of, codes_left}
 use Rattle.code_cell.proofs.fits.Given as goal
 
 abbrev pub invariant-loop-next : goal.invariant-loop-next

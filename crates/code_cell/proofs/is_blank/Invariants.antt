@@ -1,12 +1,9 @@
 -- is_blank meets its contract. Assumes nothing.
-use mathlib.Core.Path.{◌≡◌, refl, sym, ◌∙◌}
+use mathlib.Core.Path.{◌≡◌}
 use Prim.Native.Nat.{◌-◌, ◌≤◌}
-use native.Mathlib.Omega.{arith}
-use borrow.Author.Rules.{rules}
 use lib.ListN.{length, drop}
 use Rattle.dial_code.specs.Digits.{every}
 use Rattle.code_entry.specs.Entry.{is_blank}
-use Rattle.code_cell.proofs.Looks.{blank_next, blank_not, blank_end}
 use Rattle.code_cell.proofs.is_blank.Given as goal
 
 abbrev pub invariant-loop-at : goal.invariant-loop-at

@@ -1,7 +1,5 @@
 -- is_own meets its contract. Assumes nothing.
 use mathlib.Core.Path.{sym, ◌∙◌}
-use Prim.Native.Nat.{◌-◌}
-use borrow.Author.Rules.{rules}
 use Rattle.code_cell.proofs.Looks.{no_country, some_country}
 use Rattle.code_cell.proofs.is_own.Goals as goal
 

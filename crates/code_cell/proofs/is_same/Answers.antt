@@ -1,6 +1,5 @@
 -- is_same meets its contract. Assumes nothing.
 use mathlib.Core.Path.{sym}
-use Prim.Native.Nat.{◌-◌}
 use Rattle.code_cell.proofs.Looks.{other_digits, other_first, by_count}
 use Rattle.code_cell.proofs.is_same.Goals as goal
 

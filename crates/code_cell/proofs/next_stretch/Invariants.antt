@@ -1,16 +1,9 @@
 -- next_stretch meets its contract. Assumes nothing.
-use mathlib.Core.Path.{◌≡◌, refl, ap, sym, ◌∙◌}
-use Prim.Native.Nat.{◌+◌, ◌-◌, ◌≤◌}
-use native.Mathlib.Omega.{arith}
-use borrow.Author.Rules.{rules}
-use lib.ListN.{length, drop}
-use Rattle.code_entry.specs.Entry.{read_entry}
-use Rattle.code_entry.specs.declared.EntryRead.TheVariants as entry
-use Rattle.code_entry.specs.Range.{Writable}
+use mathlib.Core.Path.{◌≡◌}
+use Prim.Native.Nat.{◌-◌, ◌≤◌}
+use lib.ListN.{length}
 use Rattle.code_cell.specs.Count.{marks_end, stretch, good_ranges, closest}
-use Rattle.code_cell.specs.declared.Stretch.{Stretch}
-use Rattle.code_cell.proofs.Names.{part_read, named_at, refused_at, ends_within, named_writable, last_at, next_at}
-use Rattle.code_cell.proofs.Refusals.{near_refused, near_next, near_end}
+use Rattle.code_cell.proofs.Names.{named_at}
 use Rattle.code_cell.proofs.next_stretch.Given as goal
 
 abbrev pub invariant-loop-found : goal.invariant-loop-found

@@ -1,8 +1,6 @@
 -- order_with meets its contract. Assumes nothing.
 use mathlib.Core.Path.{◌∙◌}
-use Prim.Native.Nat.{◌-◌}
 use native.Mathlib.Omega.{arith}
-use borrow.Author.Rules.{rules}
 use Rattle.code_cell.proofs.Orders.{first_so, last_so, made}
 use Rattle.code_cell.proofs.Marks.{high_most}
 use Rattle.code_cell.proofs.order_with.Goals as goal

@@ -1,7 +1,5 @@
 -- own_refusal meets its contract. Assumes nothing.
 use mathlib.Core.Path.{sym, ◌∙◌}
-use Prim.Native.Nat.{◌-◌}
-use borrow.Author.Rules.{rules}
 use Rattle.code_cell.proofs.Refusals.{own_not, own_full, own_fits}
 use Rattle.code_cell.proofs.own_refusal.Goals as goal
 

@@ -1,9 +1,7 @@
 -- still meets its contract. Assumes nothing.
 use mathlib.Core.Path.{ap, sym}
 use mathlib.Core.Bool.{Bool, ◌&&◌}
-use Prim.Native.Nat.{◌-◌}
 use lib.Dec.{ltb}
-use borrow.Author.Rules.{rules}
 use Rattle.code_cell.proofs.still.Goals as goal
 
 pub returns-then-held : goal.returns-then-held
