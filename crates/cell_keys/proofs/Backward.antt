@@ -1,9 +1,9 @@
 -- A cell's entries from the last to the first: they name the same keys. Assumes nothing.
 -- Two rising lists that hold the same are the same.
 use mathlib.Core.Path.{◌≡◌, refl, ap, ap₂, sym, ◌∙◌}
-use mathlib.Core.Bool.{Bool, true, false, false≢true, cond, not, ◌||◌}
+use mathlib.Core.Bool.{Bool, true, false, false≢true, cond, ◌||◌}
 use mathlib.Core.List.{List, [], ◌∷◌, ◌++◌}
-use Prim.Native.Nat.{ℕ, ◌+◌, ◌-◌, ◌≤◌}
+use Prim.Native.Nat.{ℕ, ◌≤◌}
 use native.Mathlib.Omega.{arith}
 use borrow.Author.Tests.{eq-eqb, ne_eqb, ltb-false, eqb-true, eqb-false}
 use lib.Dec.{eqb, ltb}

@@ -13,7 +13,7 @@ use Rattle.code_entry.specs.Range.{range_keys}
 use Rattle.code_entry.specs.Entry.{comma, is_no_comma, leading, entry_of, entry_codes, read_entry}
 use Rattle.code_entry.specs.declared.CodeRange.{CodeRange}
 use Rattle.code_entry.specs.declared.Named.{Named}
-use Rattle.code_entry.specs.declared.Named.TheVariants.{Codes, Refused}
+use Rattle.code_entry.specs.declared.Named.TheVariants.{Codes}
 use Rattle.code_entry.specs.declared.EntryRead.TheVariants as entry
 use Rattle.code_entry.proofs.EntryLaws.{rest_drop}
 use Rattle.code_cell.specs.Cell.{insert_all, before, entries_of, keys_named, refusal_of, keys_of}

@@ -1,5 +1,5 @@
 -- The keys of a range's codes, as they are written.
-use Rattle.std.specs.Prelude.{List, ℕ, ◌+◌, ◌^◌, ◌≤◌, cond, eqb}
+use Rattle.std.specs.Prelude.{ℕ, ◌+◌, ◌^◌, ◌≤◌, cond, eqb}
 use Rattle.dial_code.specs.Digits.{most_digits, digits}
 use Rattle.dial_code.specs.Key.{key}
 

@@ -1,10 +1,8 @@
 -- a cell that is not refused, by its entries
 use mathlib.Core.Path.{◌≡◌, ap, sym, ◌∙◌, ap₂}
 use mathlib.Core.List.{[], map}
-use Prim.Native.Nat.{◌-◌}
 use native.Mathlib.Omega.{arith}
 use lib.ListN.{length}
-use borrow.Author.Rules.{rules}
 use lib.Seq.{sets}
 use Rattle.code_entry.specs.Entry.{entry_codes}
 use Rattle.code_cell.specs.Cell.{CellKeys, entries_of, keys_named, refusal_of, keys_of, cell_keys}

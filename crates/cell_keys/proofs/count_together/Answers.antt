@@ -1,9 +1,7 @@
 -- count_together meets its contract. Assumes nothing.
 use mathlib.Core.Path.{refl}
-use Prim.Native.Nat.{◌+◌, ◌-◌}
 use native.Mathlib.Omega.{arith}
-use borrow.Author.Rules.{rules}
-use Rattle.cell_keys.proofs.Turns.{Counts, count_old, count_new, count_ends, count_rest, value_most, same_few, step_back}
+use Rattle.cell_keys.proofs.Turns.{count_old, count_new, count_ends, count_rest, value_most, same_few, step_back}
 use Rattle.dial_code.proofs.Tests.{positive}
 use Rattle.cell_keys.proofs.count_together.Goals as goal
 

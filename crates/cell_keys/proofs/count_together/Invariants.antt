@@ -1,10 +1,6 @@
 -- count_together meets its contract. Assumes nothing.
-use mathlib.Core.Path.{refl}
-use Prim.Native.Nat.{◌+◌, ◌-◌}
-use native.Mathlib.Omega.{arith}
-use borrow.Author.Rules.{rules}
-use Rattle.cell_keys.proofs.Turns.{Counts, count_old, count_new, count_ends, count_rest, value_most, same_few, step_back}
-use Rattle.dial_code.proofs.Tests.{positive}
+use Prim.Native.Nat.{◌+◌}
+use Rattle.cell_keys.proofs.Turns.{Counts}
 use Rattle.cell_keys.proofs.count_together.Given as goal
 
 abbrev pub invariant-loop-p : goal.invariant-loop-p

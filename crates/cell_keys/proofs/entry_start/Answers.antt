@@ -1,8 +1,5 @@
 -- entry_start meets its contract. Assumes nothing.
-use Prim.Native.Nat.{◌-◌, ◌≤◌}
 use native.Mathlib.Omega.{arith}
-use borrow.Author.Rules.{rules}
-use Rattle.cell_keys.specs.Places.{NoComma}
 use Rattle.cell_keys.proofs.Starts.{start_so, no_comma_none, no_comma_more}
 use Rattle.cell_keys.proofs.entry_start.Goals as goal
 

@@ -1,9 +1,6 @@
 -- entry_start meets its contract. Assumes nothing.
-use Prim.Native.Nat.{◌-◌, ◌≤◌}
-use native.Mathlib.Omega.{arith}
-use borrow.Author.Rules.{rules}
+use Prim.Native.Nat.{◌≤◌}
 use Rattle.cell_keys.specs.Places.{NoComma}
-use Rattle.cell_keys.proofs.Starts.{start_so, no_comma_none, no_comma_more}
 use Rattle.cell_keys.proofs.entry_start.Given as goal
 
 abbrev pub invariant-loop-at : goal.invariant-loop-at

@@ -1,9 +1,8 @@
 -- fill meets its contract. Assumes nothing.
 use mathlib.Core.Path.{refl}
-use Prim.Native.Nat.{◌+◌, ◌-◌}
+use Prim.Native.Nat.{◌+◌}
 use native.Mathlib.Omega.{arith}
-use borrow.Author.Rules.{rules}
-use Rattle.cell_keys.proofs.Turns.{Fills, fill_turn, fill_end, key_most, value_most}
+use Rattle.cell_keys.proofs.Turns.{fill_turn, fill_end, key_most, value_most}
 use Rattle.cell_keys.proofs.fill.Goals as goal
 
 pub loop-left-init : goal.loop-left-init

@@ -1,9 +1,5 @@
 -- fill meets its contract. Assumes nothing.
-use mathlib.Core.Path.{refl}
-use Prim.Native.Nat.{◌+◌, ◌-◌}
-use native.Mathlib.Omega.{arith}
-use borrow.Author.Rules.{rules}
-use Rattle.cell_keys.proofs.Turns.{Fills, fill_turn, fill_end, key_most, value_most}
+use Rattle.cell_keys.proofs.Turns.{Fills}
 use Rattle.cell_keys.proofs.fill.Given as goal
 
 abbrev pub invariant-loop-left : goal.invariant-loop-left

@@ -1,6 +1,5 @@
 -- key_of meets its contract. Assumes nothing.
 use mathlib.Core.Path.{◌∙◌}
-use borrow.Author.Rules.{rules}
 use Rattle.cell_keys.proofs.Steps.{keyed}
 use Rattle.cell_keys.proofs.key_of.Goals as goal
 

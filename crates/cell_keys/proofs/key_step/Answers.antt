@@ -1,7 +1,6 @@
 -- key_step meets its contract. Assumes nothing.
-use Prim.Native.Nat.{ℕ, ◌-◌}
-use borrow.Author.Rules.{rules}
-use Rattle.cell_keys.proofs.Steps.{Carries, starts, turn, ends}
+use Prim.Native.Nat.{◌-◌}
+use Rattle.cell_keys.proofs.Steps.{starts, turn, ends}
 use Rattle.cell_keys.proofs.key_step.Goals as goal
 
 pub loop-v-init : goal.loop-v-init

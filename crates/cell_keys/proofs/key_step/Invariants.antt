@@ -1,7 +1,6 @@
 -- key_step meets its contract. Assumes nothing.
-use Prim.Native.Nat.{ℕ, ◌-◌}
-use borrow.Author.Rules.{rules}
-use Rattle.cell_keys.proofs.Steps.{Carries, starts, turn, ends}
+use Prim.Native.Nat.{ℕ}
+use Rattle.cell_keys.proofs.Steps.{Carries}
 use Rattle.cell_keys.proofs.key_step.Given as goal
 
 abbrev pub invariant-loop-v : goal.invariant-loop-v

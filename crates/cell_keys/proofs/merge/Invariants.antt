@@ -1,11 +1,6 @@
 -- merge meets its contract. Assumes nothing.
-use mathlib.Core.Path.{refl, ◌∙◌}
-use Prim.Native.Nat.{◌+◌, ◌-◌}
-use native.Mathlib.Omega.{arith}
-use borrow.Author.Rules.{rules}
-use Rattle.dial_code.proofs.Tests.{positive}
-use Rattle.cell_keys.proofs.Turns.{Merging, some_room, merge_old, merge_new, merge_ends, merge_rest, rest_fits, same_few, step_back, value_most}
-use Rattle.cell_keys.proofs.Puts.{run_one}
+use Prim.Native.Nat.{◌+◌}
+use Rattle.cell_keys.proofs.Turns.{Merging}
 use Rattle.cell_keys.proofs.merge.Given as goal
 
 abbrev pub invariant-loop-p : goal.invariant-loop-p

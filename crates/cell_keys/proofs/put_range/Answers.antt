@@ -1,9 +1,7 @@
 -- put_range meets its contract. Assumes nothing.
 use mathlib.Core.Path.{ap, sym, ◌∙◌}
-use Prim.Native.Nat.{◌-◌}
 use native.Mathlib.Omega.{arith}
 use lib.ListN.{length}
-use borrow.Author.Rules.{rules}
 use Rattle.code_cell.proofs.RangeKeys.{length_keys}
 use Rattle.cell_keys.proofs.Puts.{run_of, run_one, put_so, first_put, above_length, above_words}
 use lib.Seq.{sets}

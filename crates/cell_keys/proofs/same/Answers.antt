@@ -1,6 +1,5 @@
 -- same meets its contract. Assumes nothing.
 use mathlib.Core.Path.{sym}
-use Prim.Native.Nat.{◌-◌}
 use Rattle.cell_keys.proofs.Merges.{same_so, same_not}
 use Rattle.cell_keys.proofs.same.Goals as goal
 

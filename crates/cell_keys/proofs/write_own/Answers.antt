@@ -1,9 +1,7 @@
 -- the code
 use mathlib.Core.Path.{◌≡◌, ap, sym, ◌∙◌, ap₂}
 use mathlib.Core.List.{[], ◌∷◌}
-use Prim.Native.Nat.{◌-◌}
 use lib.ListN.{length}
-use borrow.Author.Rules.{rules}
 use lib.Seq.{sets}
 use Rattle.code_entry.specs.Entry.{own_code}
 use Rattle.code_entry.specs.declared.Named.{Named}

@@ -1,9 +1,7 @@
 -- write_range meets its contract. Assumes nothing.
 use mathlib.Core.Path.{ap, sym, ◌∙◌}
-use Prim.Native.Nat.{◌-◌}
 use native.Mathlib.Omega.{arith}
 use lib.ListN.{length}
-use borrow.Author.Rules.{rules}
 use lib.Seq.{sets}
 use Rattle.code_cell.specs.Cell.{CellKeys, refusal_of, keys_of}
 use Rattle.cell_keys.proofs.Ones.{one_fits, one_full}
