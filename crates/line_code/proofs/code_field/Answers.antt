@@ -21,8 +21,7 @@ tests : (c : In-Key) →
     (cond (eqb a.named 0 || is_country (country_of_key k) a.named) (Value k a.next) (Refused 7))
     (Refused 6)
 tests c =
-    let s = c in
-    sent_code_tests s.args.count s.args.value s.requires.0 s.requires.1 _ _ _ _
+    sent_code_tests c.args.count c.args.value c.requires.0 c.requires.1 _ _ _ _
     (sym c.sent_code_key.ensures ∙ c.in-Key.is)
 
 rises : (c : Else-key-before) → ltb c.args.before c.in-Key.key ≡ true
@@ -47,9 +46,8 @@ returns-then-lies_in c =
 
 pub returns-in-Refused : goal.returns-in-Refused
 returns-in-Refused c =
-    let s = c in
     sym
-    (sent_code_refused s.args.count s.args.value s.requires.0 s.requires.1 _ _ _ _
+    (sent_code_refused c.args.count c.args.value c.requires.0 c.requires.1 _ _ _ _
     (sym c.sent_code_key.ensures ∙ c.in-Refused.is))
 
 pub returns-else-lies_in : goal.returns-else-lies_in
