@@ -14,8 +14,7 @@ count_read c = sym c.in_range.ensures ∙ c.in-Value.is
 
 pub country_field-requires : goal.country_field-requires
 country_field-requires c =
-    let d = c in
-    in_range_facts d.args.count _ _ (count_read (goal.at.country_field-requires c).In-Value)
+    in_range_facts c.args.count _ _ (count_read (goal.at.country_field-requires c).In-Value)
 
 pub returns-in-Refused : goal.returns-in-Refused
 returns-in-Refused c = sym (on_refused _ _ (sym c.in_range.ensures ∙ c.in-Refused.is))

@@ -1,4 +1,5 @@
--- Five numbers that one reader gives in a row, from the start of the notice, make the header that the rule reads.
+-- `notice_header::leading_fields` meets its contract: five numbers that one reader gives in a row, from the start of the notice, make the
+-- header that the rule reads. Assumes nothing.
 use Rattle.std.proofs.Common.{◌≡◌, ℕ, List, ap, ◌∙◌}
 use Rattle.varint.specs.Reading.{read_number}
 use Rattle.varint.specs.declared.Number.{Number}
@@ -22,7 +23,9 @@ gives s at r r' n p e =
       e.0 ∙ given,
       record {
         over = ap (λ (x : Reader). x.src.now) e.1 ∙ p.over;
-        place = ap (λ (x : Reader). x.at) e.1 ∙ ap (λ (x : ℕ). place_after x (read_number r.src.now r.at)) p.place ∙ ap (place_after at) given;
+        place = ap (λ (x : Reader). x.at) e.1
+            ∙ ap (λ (x : ℕ). place_after x (read_number r.src.now r.at)) p.place
+            ∙ ap (place_after at) given;
       },
     )
 
