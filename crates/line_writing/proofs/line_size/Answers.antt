@@ -51,20 +51,17 @@ overflow_add-result-in-Open-3 c =
 pub returns-in-Closed : goal.returns-in-Closed
 unfolding offer_fields
 returns-in-Closed c =
-    let s = c in
-    plain_size _ (value_size (goal.at.returns-in-Closed c).After-number_size) s.number_size-last.ensures s.if-last-eq0.false _ (omega arith) (ap offer_fields c.in-Closed.is)
+    plain_size _ (value_size (goal.at.returns-in-Closed c).After-number_size) c.number_size-last.ensures c.if-last-eq0.false _ (omega arith) (ap offer_fields c.in-Closed.is)
 
 pub returns-in-Blocked : goal.returns-in-Blocked
 unfolding offer_fields
 returns-in-Blocked c =
-    let s = c in
-    plain_size _ (value_size (goal.at.returns-in-Blocked c).After-number_size) s.number_size-last.ensures s.if-last-eq0.false _ (omega arith) (ap offer_fields c.in-Blocked.is)
+    plain_size _ (value_size (goal.at.returns-in-Blocked c).After-number_size) c.number_size-last.ensures c.if-last-eq0.false _ (omega arith) (ap offer_fields c.in-Blocked.is)
 
 pub returns-in-Open : goal.returns-in-Open
 unfolding offer_fields
 returns-in-Open c =
-    let s = c in
-    open_size _ (value_size (goal.at.returns-in-Open c).After-number_size) s.number_size-last.ensures s.if-last-eq0.false _ _ _ _ _
+    open_size _ (value_size (goal.at.returns-in-Open c).After-number_size) c.number_size-last.ensures c.if-last-eq0.false _ _ _ _ _
     (omega arith) (omega arith)
     (ap offer_fields c.in-Open.is)
     c.number_size-price.ensures

@@ -12,7 +12,9 @@ pub returns-in-Closed : goal.returns-in-Closed
 unfolding offer_fields
 returns-in-Closed c =
     let a = c.args in
-    let w = c.write_numbers in both (subst
+    let w = c.write_numbers in
+    both
+    (subst
     (λ (ns : List ℕ). ComesAll a.out.now a.at ns w.result w.new.out)
     (line_sends _ _ _ c.key_code-code.ensures c.in-Closed.is)
     (w.ensures.value, w.ensures.after))
@@ -21,7 +23,9 @@ pub returns-in-Blocked : goal.returns-in-Blocked
 unfolding offer_fields
 returns-in-Blocked c =
     let a = c.args in
-    let w = c.write_numbers-in-Blocked in both (subst
+    let w = c.write_numbers-in-Blocked in
+    both
+    (subst
     (λ (ns : List ℕ). ComesAll a.out.now a.at ns w.result w.new.out)
     (line_sends _ _ _ c.key_code-code.ensures c.in-Blocked.is)
     (w.ensures.value, w.ensures.after))
@@ -30,7 +34,9 @@ pub returns-in-Open : goal.returns-in-Open
 unfolding offer_fields
 returns-in-Open c =
     let a = c.args in
-    let w = c.write_numbers-in-Open in both (subst
+    let w = c.write_numbers-in-Open in
+    both
+    (subst
     (λ (ns : List ℕ). ComesAll a.out.now a.at ns w.result w.new.out)
     (line_sends _ _ _ c.key_code-code.ensures c.in-Open.is)
     (w.ensures.value, w.ensures.after))
