@@ -11,4 +11,7 @@ pub returns : goal.returns
 returns c =
     let a = c.args in
     let w = c.write_numbers in
-    let n : a.fields.count - 0 ≡ a.fields.count = omega arith in both (subst (λ (n : ℕ). ComesAll a.out.now a.at (take n a.fields.numbers) w.result w.new.out) n (w.ensures.value, w.ensures.after))
+    let n : a.fields.count - 0 ≡ a.fields.count = omega arith in
+    both
+    (subst
+    (λ (n : ℕ). ComesAll a.out.now a.at (take n a.fields.numbers) w.result w.new.out) n (w.ensures.value, w.ensures.after))

@@ -9,7 +9,9 @@ use Rattle.notice_writing.proofs.write_header.Goals as goal
 pub returns : goal.returns
 returns c =
     let a = c.args in
-    let w = c.write_fields in both (subst
+    let w = c.write_fields in
+    both
+    (subst
     (λ (ns : List ℕ). ComesAll a.out.now a.at ns w.result w.new.out)
     c.header_fields.ensures.numbers_value
     (w.ensures.value, w.ensures.after))
