@@ -12,17 +12,15 @@ returns-then-count-eq0 c = sym (sound_none _ _ _ c.if-count-eq0.true)
 
 pub returns-then-not-can_begin : goal.returns-then-not-can_begin
 returns-then-not-can_begin c =
-    let p = c in
     sym
-    (sound_first _ _ (omega arith) p.entry_at-before.ensures
+    (sound_first _ _ (omega arith) c.entry_at-before.ensures
     ∙ and_left_false _ (sym c.can_begin.ensures ∙ c.if-not-can_begin.true))
 
 pub loop-left-init : goal.loop-left-init
 loop-left-init c =
-    let p = c in
     let b = sym c.can_begin.ensures ∙ c.if-not-can_begin.false in (
       omega arith,
-      sound_first _ _ (omega arith) p.entry_at-before.ensures ∙ and_left_true _ b,
+      sound_first _ _ (omega arith) c.entry_at-before.ensures ∙ and_left_true _ b,
       (begins_facts _ b).1,
     )
 
@@ -31,19 +29,17 @@ can_follow-requires c = c.loop-left.invariant.2.code
 
 pub returns-then-not-can_follow : goal.returns-then-not-can_follow
 returns-then-not-can_follow c =
-    let p = c in
     sym
-    (p.loop-left.invariant.1
-    ∙ sound_turn _ _ _ _ p.loop-left-test.true p.entry_at-e.ensures
+    (c.loop-left.invariant.1
+    ∙ sound_turn _ _ _ _ c.loop-left-test.true c.entry_at-e.ensures
     ∙ and_left_false _ (sym c.can_follow.ensures ∙ c.if-not-can_follow.true))
 
 pub loop-left-preserved : goal.loop-left-preserved
 loop-left-preserved c =
-    let p = c in
-    let l = p.loop-left in
+    let l = c.loop-left in
     let f = sym c.can_follow.ensures ∙ c.if-not-can_follow.false in (
       omega arith,
-      l.invariant.1 ∙ sound_turn _ _ _ _ p.loop-left-test.true p.entry_at-e.ensures ∙ and_left_true _ f,
+      l.invariant.1 ∙ sound_turn _ _ _ _ c.loop-left-test.true c.entry_at-e.ensures ∙ and_left_true _ f,
       (follows_facts _ _ l.invariant.2 f).1,
     )
 

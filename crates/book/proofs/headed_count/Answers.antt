@@ -11,6 +11,5 @@ returns-then-not-is_headed c = sym (no_header _ (sym c.is_headed.ensures ∙ c.i
 
 pub returns : goal.returns
 returns c =
-    let e = c in
     c.counted.ensures
-    ∙ sym (headed_count_law _ e.if-words-lt-HEADER_WORDS.false (sym e.is_headed.ensures ∙ e.if-not-is_headed.false))
+    ∙ sym (headed_count_law _ c.if-words-lt-HEADER_WORDS.false (sym c.is_headed.ensures ∙ c.if-not-is_headed.false))

@@ -9,10 +9,10 @@ pub loop-i-init : goal.loop-i-init
 loop-i-init c = refl
 
 pub returns-then-words-i-ne0 : goal.returns-then-words-i-ne0
-returns-then-words-i-ne0 c = let p = c in sym (p.loop-i.invariant ∙ not_zero _ _ p.loop-i-test.true (λ z. omega arith))
+returns-then-words-i-ne0 c = sym (c.loop-i.invariant ∙ not_zero _ _ c.loop-i-test.true (λ z. omega arith))
 
 pub loop-i-preserved : goal.loop-i-preserved
-loop-i-preserved c = let p = c in p.loop-i.invariant ∙ one_zero _ _ p.loop-i-test.true (omega arith)
+loop-i-preserved c = c.loop-i.invariant ∙ one_zero _ _ c.loop-i-test.true (omega arith)
 
 pub returns : goal.returns
 returns c = sym (c.loop-i.invariant ∙ all_seen _ _ c.loop-i-test.false)

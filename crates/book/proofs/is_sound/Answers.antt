@@ -36,11 +36,10 @@ as_counted c =
 
 pub returns-then-not-are_sound : goal.returns-then-not-are_sound
 returns-then-not-are_sound c =
-    let p = c in
     sym
     (bad_entries _
-    p.if-words-lt-HEADER_WORDS.false
-    (sym p.is_headed.ensures ∙ p.if-not-is_headed.false)
+    c.if-words-lt-HEADER_WORDS.false
+    (sym c.is_headed.ensures ∙ c.if-not-is_headed.false)
     (as_counted (goal.at.returns-then-not-are_sound c).After-counted-count ∙ sym c.are_sound.ensures ∙ c.if-not-are_sound.true))
 
 pub overflow_mul-count : goal.overflow_mul-count
@@ -51,11 +50,10 @@ overflow_add-count c = omega (arith, (head (goal.at.overflow_add-count c).Else-n
 
 pub returns : goal.returns
 returns c =
-    let p = c in
     c.is_clear.ensures
     ∙ ap (λ (n : ℕ). all_zero (drop (header_words + n * entry_words) c.args.words.now)) c.counted-count.ensures
     ∙ sym
     (by_rest _
-    p.if-words-lt-HEADER_WORDS.false
-    (sym p.is_headed.ensures ∙ p.if-not-is_headed.false)
+    c.if-words-lt-HEADER_WORDS.false
+    (sym c.is_headed.ensures ∙ c.if-not-is_headed.false)
     (as_counted (goal.at.returns c).After-counted-count ∙ sym c.are_sound.ensures ∙ c.if-not-are_sound.false))

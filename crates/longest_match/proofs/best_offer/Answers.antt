@@ -16,23 +16,21 @@ use Rattle.longest_match.proofs.best_offer.Goals as goal
 -- the answer by the offer found
 at_offer :
     (c : After-offer_held-offer)
-    → let f = c in
-    let l = f.loop-n in
-    let a = f.args in
+    → let l = c.loop-n in
+    let a = c.args in
     let k = l.quotient * l.place in
     best_found a.words.now a.key a.day
     ≡ standing c.offer_held-offer.result k
-    (tried a.words.now a.key a.day (l.n - 1) f.entries_up_to-count.result
+    (tried a.words.now a.key a.day (l.n - 1) c.entries_up_to-count.result
     (min c.last_entry-e.result.key (k - 1)))
 at_offer c =
-    let f = c in
-    let l = f.loop-n in
+    let l = c.loop-n in
     l.invariant.4
     ∙ searched _ _ _ l.n l.count l.bound _
-    f.loop-n-test.true
+    c.loop-n-test.true
     (place_key _ _ _ _ l.invariant.1 l.invariant.2)
-    f.if-k-bound.true
-    f.entries_up_to-count.ensures
+    c.if-k-bound.true
+    c.entries_up_to-count.ensures
     c.last_entry-e.ensures
     c.own_word.ensures
     c.offer_held-offer.ensures

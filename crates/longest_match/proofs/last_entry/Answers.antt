@@ -1,4 +1,4 @@
--- last_entry_law meets its contract: the entry before so many, or zeros. Assumes nothing.
+-- last_entry meets its contract: the entry before so many, or zeros. Assumes nothing.
 use mathlib.Core.Path.{sym, ◌∙◌}
 use Rattle.longest_match.proofs.Halving.{no_last, some_last}
 use Rattle.longest_match.proofs.last_entry.Goals as goal

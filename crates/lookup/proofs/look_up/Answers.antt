@@ -27,22 +27,19 @@ returns-then-e-ne0 c =
 
 pub returns-then-not-in_range : goal.returns-then-not-in_range
 returns-then-not-in_range c =
-    let p = c in
     let t = sym c.in_range.ensures ∙ c.if-not-in_range.true in
     sym (no_day _ _ _ (no_refusal (goal.at.returns-then-not-in_range c).Else-e-ne0) (key_of (goal.at.returns-then-not-in_range c).In-Key).number t)
 
 pub returns-in-Refused : goal.returns-in-Refused
 returns-in-Refused c =
-    let p = c in
-    let n = not_dialled _ _ (sym p.number_key.ensures ∙ c.in-Refused.is) in
+    let n = not_dialled _ _ (sym c.number_key.ensures ∙ c.in-Refused.is) in
     ap Refused n.1 ∙ sym (no_number _ _ _ (no_refusal (goal.at.returns-in-Refused c).Else-e-ne0) n.0)
 
 pub returns-else-not-in_range : goal.returns-else-not-in_range
 returns-else-not-in_range c =
-    let p = c in
     let d = key_of (goal.at.returns-else-not-in_range c).In-Key in
     let b = no_refusal (goal.at.returns-else-not-in_range c).Else-e-ne0 in
-    let a = p.args in
+    let a = c.args in
     let st = status_on a.words.now a.day.0 in
     let t = sym c.in_range.ensures ∙ c.if-not-in_range.false in
     ap Found (c.best_offer.ensures ∙ best_found_law _ _ _ (usable_sound _ b) d.keyed ∙ ap (matched st) d.digits)
