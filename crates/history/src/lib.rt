@@ -1,5 +1,6 @@
 // The plain machine of document 01 and the claim over every history: definitions and theorems. Beside them the answer of an
 // apply, which both speak of.
+#![tactic(auto)]
 
 // What an apply answers: refusal number, and where it is 0 the new book's entries, last received day and latest effective day.
 #[derive(Clone, Copy)]
