@@ -1,4 +1,6 @@
 // What a notice asks of the codes that it does not list (document 01, "Effective days").
+#![tactic(auto)]
+
 ghost use Rattle.std.specs.Prelude.{◌≡◌};
 ghost use Rattle.closing.specs.Closings.{is_marked, closes_by, closed_anyway, closed_range};
 

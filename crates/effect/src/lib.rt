@@ -1,4 +1,6 @@
 // What a notice asks of each of its lines (document 01, "Effective days").
+#![tactic(auto)]
+
 ghost use Rattle.std.specs.Prelude.{◌≡◌, max};
 ghost use Rattle.effect.specs.Lines.{found_in, raises, effective_by, change_by};
 
