@@ -1,5 +1,7 @@
 // The merge of a book's entries with the lines of a notice (document 01, "The book"). Between the
 // lines stand the entries of codes that the notice does not list, and at each line those of the line's code.
+#![tactic(auto)]
+
 ghost use Rattle.std.specs.Prelude.{◌≡◌, [], ◌∷◌, ◌+◌, ◌-◌, ◌*◌, ◌≤◌, min, length};
 ghost use Rattle.book_words.specs.Layout.{entry_words, entry_at, entries_from, put_entries};
 ghost use Rattle.closing.specs.Closings.{closes_by};
