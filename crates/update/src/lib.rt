@@ -1,5 +1,7 @@
 // Applying a notice to a book (document 01, "Effective days", "The book"): the notice is checked, its countries are noted, and the
 // book is merged with its lines, counted first unless there is room in any case.
+#![tactic(auto)]
+
 ghost use Rattle.std.specs.Prelude.{◌≡◌, true, ◌+◌, ◌*◌, ◌≤◌, leb, length};
 ghost use Rattle.calendar.specs.Time.{last_received_day};
 ghost use Rattle.notice_header.specs.HeaderRule.{most_lines};

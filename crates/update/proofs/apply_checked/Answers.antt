@@ -1,0 +1,75 @@
+-- `update::apply_checked` meets its contract: 10, 30, or the new book. Assumes nothing.
+use mathlib.Core.Path.{◌≡◌, ap, ap₂, ◌∙◌}
+use Prim.Native.Nat.{◌≤◌}
+use native.Mathlib.Omega.{arith}
+use borrow.Author.Rules.{rules}
+use borrow.Author.Tests.{not-true, not-false}
+use Rattle.book_words.specs.Layout.{period_of, received_of, latest_of}
+use Rattle.book_words.specs.declared.Header.{Header}
+use Rattle.book.proofs.Headers.{sound_book}
+use Rattle.update.specs.Plans.{plan_of}
+use Rattle.update.proofs.Answering.{ready, refuses_earlier, refuses_full, fill_room, accepts}
+use Rattle.slice_laws.proofs.Clauses.{both}
+use Rattle.update.proofs.apply_checked.Goals.{After-plan_of-plan, Else-m-header}
+use Rattle.update.proofs.apply_checked.Goals as goal
+
+-- the notice is not received too early
+in_time : (c : Else-m-header) → let a = c.args in received_of a.old.now ≤ a.m.received
+in_time c = omega (arith, c.if-m-header.false, ap (λ (h : Header). h.received) c.header_of-header.ensures)
+
+-- the plan is that of the header's period and latest day
+planned : (c : After-plan_of-plan) →
+    let a = c.args in
+    c.plan_of-plan.result ≡ plan_of a.m (period_of a.old.now) (latest_of a.old.now)
+planned c =
+    let h = c.header_of-header.ensures in
+    c.plan_of-plan.ensures
+    ∙ ap₂ (plan_of c.args.m) (ap (λ (x : Header). x.period) h) (ap (λ (x : Header). x.latest) h)
+
+pub returns-then-m-header : goal.returns-then-m-header
+returns-then-m-header c =
+    let p = c.requires in
+    let h = ap (λ (x : Header). x.received) c.header_of-header.ensures in both (refuses_earlier _ _ _ _ p.0 p.1 p.2 c.refused.ensures (omega (arith, c.if-m-header.true, h)))
+
+pub plan_of-plan-requires : goal.plan_of-plan-requires
+plan_of-plan-requires c =
+    let p = c.requires in
+    let h = ap (λ (x : Header). x.period) c.header_of-header.ensures in
+    ((ready _ _ p.2).received_most, omega (arith, h, (sound_book _ p.0).header.period_most))
+
+pub has_room-requires : goal.has_room-requires
+has_room-requires c = (ready _ _ c.requires.2).lines_most
+
+pub shape_of-new : goal.shape_of-new
+shape_of-new c = c.fill-done.auto.new
+
+pub returns-then-not-has_room : goal.returns-then-not-has_room
+returns-then-not-has_room c =
+    let h = c in
+    let s = c in
+    let a = s.args in
+    let p = s.requires in both (refuses_full a.old.now a.notice.now a.m a.new.now p.0 p.1 p.2 (in_time (goal.at.returns-then-not-has_room c).Else-m-header) (planned (goal.at.returns-then-not-has_room c).After-plan_of-plan)
+    h.marks_for-marks.ensures h.has_room.ensures c.refused-then-not-has_room.ensures
+    (c.if-not-has_room.true))
+
+pub fill-done-requires : goal.fill-done-requires
+fill-done-requires c =
+    let h = c in
+    let s = c in
+    let a = s.args in
+    let p = s.requires in (
+      (ready _ _ p.2).lines_most,
+      fill_room a.old.now a.notice.now a.m a.new.now p.0 p.1 p.2 (in_time (goal.at.fill-done-requires c).Else-m-header) (planned (goal.at.fill-done-requires c).After-plan_of-plan)
+          h.marks_for-marks.ensures h.has_room.ensures
+          (c.if-not-has_room.false),
+    )
+
+pub returns : goal.returns
+returns c =
+    let h = c in
+    let s = c in
+    let a = s.args in
+    let p = s.requires in
+    let f = c.fill-done.ensures in both (accepts a.old.now a.notice.now a.m a.new.now p.0 p.1 p.2 (in_time (goal.at.returns c).Else-m-header) (planned (goal.at.returns c).After-plan_of-plan)
+    h.marks_for-marks.ensures h.has_room.ensures
+    (c.if-not-has_room.false) f.count_value.0 f.count_value.1 f.after)
