@@ -1,4 +1,6 @@
 // The standing list of a day (document 01, "Charging and writing").
+#![tactic(auto)]
+
 ghost use Rattle.std.specs.Prelude.{◌≡◌, true, ◌+◌, ◌≤◌, ◌<◌, leb, length};
 ghost use Rattle.std.proofs.lemmas.List.Edits.{sets};
 ghost use Rattle.calendar.specs.Time.{is_received_day};

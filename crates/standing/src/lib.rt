@@ -1,5 +1,7 @@
 // Which entries stand on a day, the lines that they add to the standing list, how many these are and how many bytes they take
 // (document 01, "Charging and writing"). Of any words: the entries are those that a sound header counts.
+#![tactic(auto)]
+
 ghost use Rattle.std.specs.Prelude.{◌≡◌, length};
 ghost use Rattle.line_writing.specs.LineLayout.{encode_lines};
 ghost use Rattle.book_words.specs.Layout.{entries_from};

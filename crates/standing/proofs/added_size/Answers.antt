@@ -1,0 +1,15 @@
+-- added_size meets its contract: no line, or one. Assumes nothing.
+use mathlib.Core.Path.{sym, ◌∙◌}
+use borrow.Author.Rules.{rules}
+use borrow.Author.Tests.{not-true, not-false}
+use Rattle.standing.proofs.Turns.{none_added, size_added}
+use Rattle.standing.proofs.added_size.Goals as goal
+
+pub returns-then-not-is_standing : goal.returns-then-not-is_standing
+returns-then-not-is_standing c = (none_added _ _ _ (sym c.is_standing.ensures ∙ c.if-not-is_standing.true)).1
+
+pub returns : goal.returns
+returns c =
+    size_added _ _ _ (sym c.is_standing.ensures ∙ c.if-not-is_standing.false)
+    c.line_of.ensures
+    c.line_size.ensures

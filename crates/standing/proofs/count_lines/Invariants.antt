@@ -1,0 +1,20 @@
+-- count_lines meets its contract. The loop's invariant: what is counted and what the entries left add come to all lines.
+-- The measure is the number of entries left. Assumes nothing.
+use mathlib.Core.Path.{◌≡◌, ap}
+use Prim.Native.Nat.{◌+◌, ◌-◌, ◌*◌, ◌≤◌}
+use native.Mathlib.Omega.{arith}
+use borrow.Author.Rules.{rules}
+use lib.ListN.{length}
+use Rattle.book_words.specs.Layout.{most_words, entry_words, entries_from}
+use Rattle.book.proofs.Headers.{count_room}
+use Rattle.standing.specs.Pass.{passed, lines_by}
+use Rattle.standing.proofs.Turns.{count_row, none_left, starts, lines_few}
+use Rattle.standing.proofs.count_lines.Given as goal
+
+abbrev pub invariant-loop-left : goal.invariant-loop-left
+invariant-loop-left l =
+    (l.at + l.left * entry_words ≤ most_words)
+    × (l.lines + length (passed (entries_from l.words l.at l.left) l.day) ≡ length (lines_by l.words l.day))
+
+abbrev pub decreases-loop-left : goal.decreases-loop-left
+decreases-loop-left l = l.left
