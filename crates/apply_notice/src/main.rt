@@ -2,14 +2,16 @@
 // prints the result: refusal number, entries, last received day, latest effective day.
 #![tactic(auto)]
 
-use std::io::{self, Read};
-
 use history::Applied;
+use std::io::{self, Read};
 
 const PERIOD: u64 = 7;
 
 fn put_result(rt: HostRuntime, res: Applied) -> io::Result<()> {
-    println!(rt; "{} {} {} {}", res.refusal, res.entries, res.received, res.latest)
+    println!(rt;
+        "{} {} {} {}",
+        res.refusal, res.entries, res.received, res.latest
+    )
 }
 
 fn run(rt: HostRuntime, notice: &[u8]) -> io::Result<()> {
