@@ -2,6 +2,8 @@
 // prints the result: refusal number, entries, last received day, latest effective day.
 #![tactic(auto)]
 
+ghost use Rattle.std.specs.Prelude.{◌≤◌, IfOk, length};
+
 use history::Applied;
 use std::io::{self, Read};
 
@@ -22,7 +24,7 @@ fn run(rt: HostRuntime, notice: &[u8]) -> io::Result<()> {
 }
 
 // The bytes that a reader has, until the buffer is full: how many there are.
-fn fill<R: Read>(mut input: R, bytes: &mut [u8]) -> io::Result<usize>
+fn fill<R: Read + Drop>(mut input: R, bytes: &mut [u8]) -> io::Result<usize>
     ensures { IfOk result (λ n. n ≤ length bytes.new) }
 {
     let mut filled = 0;
