@@ -1,4 +1,6 @@
 // The answers of the library's calls as structs of 64-bit numbers, which a program in C can take.
+#![tactic(auto)]
+
 ghost use Rattle.std.specs.Prelude.{◌≡◌};
 ghost use Rattle.answers.specs.Answers.{applied_of, answer_of, offer_of, call_of, batch_of, list_of, cell_of};
 
