@@ -1,5 +1,7 @@
 // The calls of the library for programs in C, or in any language that can call C: each a proved call with its answer as a struct of
 // 64-bit numbers. include/rate_book.h declares them.
+#![tactic(auto)]
+
 ghost use Rattle.std.specs.Prelude.{◌≡◌, length};
 ghost use Rattle.std.proofs.lemmas.List.Edits.{sets};
 ghost use Rattle.book.specs.Answers.{fresh_refusal, fresh_words};
