@@ -1,9 +1,7 @@
 #!/usr/bin/env python3
-"""Sizes of the crates, and how long each takes to check: the table in docs/PROOFS.md.
+"""Sizes of the crates: the table in docs/PROOFS.md.
 
-sizes.py LOG writes the table, with the times that rt ci printed into LOG; sizes.py keeps the times that stand there; both print the
-sum over the crates of edits times check time, which decides how long the gate takes: each edit is a check of its crate. sizes.py
---check fails where the sizes are not those of the files.
+sizes.py writes the table; sizes.py --check fails where the sizes are not those of the files.
 """
 import pathlib
 import re
@@ -12,7 +10,7 @@ import sys
 ROOT = pathlib.Path(__file__).resolve().parent.parent
 PAGE = ROOT / "docs" / "PROOFS.md"
 TABLE = re.compile(r"\| crate \|.*\n(\|.*\n)+")
-HEAD = "| crate | rules | code and contracts | proofs | edits | check, s |\n|---|---:|---:|---:|---:|---:|\n"
+HEAD = "| crate | rules | code and contracts | proofs | edits |\n|---|---:|---:|---:|---:|\n"
 
 
 def said(text, comment):
@@ -40,11 +38,9 @@ def sizes(crate):
     )
 
 
-def rows(seconds):
-    crates = re.findall(r"^(\w+):", (ROOT / "crates.txt").read_text(), re.M)
-    if untimed := [crate for crate in crates if crate not in seconds]:
-        sys.exit(f"no check time of {' '.join(untimed)}: run tools/sizes.py with a log of rt ci")
-    return [(f"`{crate}`", *sizes(crate), seconds[crate]) for crate in crates]
+def rows():
+    crates = re.findall(r"^(\w+)(?: staticlib)?:", (ROOT / "crates.txt").read_text(), re.M)
+    return [(f"`{crate}`", *sizes(crate)) for crate in crates]
 
 
 def table(made):
@@ -55,18 +51,13 @@ def table(made):
 def main():
     page = PAGE.read_text()
     stands = TABLE.search(page).group(0)
-    seconds = {crate: int(n) for crate, n in re.findall(r"^\| `(\w+)` .* (\d+) \|$", stands, re.M)}
+    made = table(rows())
     if sys.argv[1:] == ["--check"]:
-        if stands != table(rows(seconds)):
+        if stands != made:
             sys.exit("the sizes in docs/PROOFS.md are not those of the files: run tools/sizes.py")
         print("sizes: as the files are")
         return
-    for log in sys.argv[1:]:
-        proved = re.findall(r"^rt: (\w+) proved \((\d+) s\)", pathlib.Path(log).read_text(), re.M)
-        seconds.update((crate, int(n)) for crate, n in proved)
-    made = rows(seconds)
-    PAGE.write_text(page.replace(stands, table(made)))
-    print(f"edits times check time: {sum(edits * took for *_, edits, took in made):,} s")
+    PAGE.write_text(page.replace(stands, made))
 
 
 main()

@@ -9,11 +9,17 @@ use std::io::{self, Read};
 
 const PERIOD: u64 = 7;
 
+// One more number of the line.
+fn put(rt: HostRuntime, n: u64) -> io::Result<()> {
+    print!(rt; " {n}")
+}
+
 fn put_result(rt: HostRuntime, res: Applied) -> io::Result<()> {
-    println!(rt;
-        "{} {} {} {}",
-        res.refusal, res.entries, res.received, res.latest
-    )
+    print!(rt; "{}", res.refusal)?;
+    put(rt, res.entries)?;
+    put(rt, res.received)?;
+    put(rt, res.latest)?;
+    println!(rt)
 }
 
 fn run(rt: HostRuntime, notice: &[u8]) -> io::Result<()> {

@@ -1,5 +1,5 @@
 -- What applying a notice to a book answers and leaves (document 01, "The book"; the order of "Who can cause a refusal").
-use Rattle.std.specs.Prelude.{◌≡◌, refl, Bool, true, false, cond, List, [], ◌∷◌, ℕ, eqb, leb, ltb, length}
+use Rattle.std.specs.Prelude.{cond, List, ℕ, eqb, leb, ltb, length}
 use Rattle.refusal.specs.Refusal.{book_too_short, received_earlier, book_full}
 use Rattle.notice.specs.NoticeRule.{Notice, Reading, notice, unread, read_notice}
 use Rattle.book_words.specs.Layout.{header_words, period_of, received_of, latest_of, held, entries_of, book_of}

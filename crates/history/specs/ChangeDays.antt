@@ -1,6 +1,6 @@
 -- Change days (document 01, "The plain machine"): a code and a day where the status differs from the day before; before day 0
 -- all is closed. They are the entries of a book, rising by key then day.
-use Rattle.std.specs.Prelude.{◌≡◌, refl, Bool, true, false, cond, List, [], ◌∷◌, ◌++◌, ℕ, zero, suc, ◌+◌, eqb, length}
+use Rattle.std.specs.Prelude.{◌≡◌, refl, cond, List, [], ◌∷◌, ◌++◌, ℕ, zero, suc, ◌+◌, eqb}
 use Rattle.dial_code.specs.Key.{keys_end}
 use Rattle.calendar.specs.Time.{last_day}
 use Rattle.book_words.specs.Layout.{entry}

@@ -1,5 +1,5 @@
 -- Demand 3 as one claim over every list of applies from a fresh book.
-use Rattle.std.specs.Prelude.{◌≡◌, Bool, true, false, cond, List, [], ◌∷◌, map, ℕ, eqb, length}
+use Rattle.std.specs.Prelude.{◌≡◌, true, cond, List, [], ◌∷◌, map, ℕ, eqb, length}
 use Rattle.dial_code.specs.Digits.{digit_of, is_dialled}
 use Rattle.calendar.specs.Time.{is_day}
 use Rattle.calendar.specs.declared.Day.{Day}

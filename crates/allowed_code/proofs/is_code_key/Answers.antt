@@ -12,9 +12,8 @@ returns-then-word c = sym (no_first_digit _ c.if-word.true)
 
 pub returns-in-Code : goal.returns-in-Code
 returns-in-Code c =
-    let p = c in
-    let country = sym p.country_of_key.ensures ∙ c.in-Code.is in
-    c.is_gapless.ensures ∙ sym (with_country _ _ p.if-word-ge-KEYS_END.false p.if-word.false country)
+    let country = sym c.country_of_key.ensures ∙ c.in-Code.is in
+    c.is_gapless.ensures ∙ sym (with_country _ _ c.if-word-ge-KEYS_END.false c.if-word.false country)
 
 pub returns-in-None : goal.returns-in-None
 returns-in-None c = sym (without_country _ (sym c.country_of_key.ensures ∙ c.in-None.is))

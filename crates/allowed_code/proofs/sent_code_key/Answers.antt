@@ -21,12 +21,10 @@ returns-in-Refused c = sym (unwritten _ _ _ (sym c.code_key.ensures ∙ c.in-Ref
 
 pub returns-in-None : goal.returns-in-None
 returns-in-None c =
-    let p = c in
-    sym (no_country _ _ _ (keyed (goal.at.returns-in-None c).In-Key) (sym p.country_of_key.ensures ∙ c.in-None.is))
+    sym (no_country _ _ _ (keyed (goal.at.returns-in-None c).In-Key) (sym c.country_of_key.ensures ∙ c.in-None.is))
 
 pub returns-in-Code : goal.returns-in-Code
 returns-in-Code c =
-    let p = c in
     sym
-    (some_country _ _ _ (keyed (goal.at.returns-in-Code c).In-Key) _ p.if-key.false
-    (sym p.country_of_key.ensures ∙ c.in-Code.is))
+    (some_country _ _ _ (keyed (goal.at.returns-in-Code c).In-Key) _ c.if-key.false
+    (sym c.country_of_key.ensures ∙ c.in-Code.is))

@@ -1,7 +1,6 @@
 -- answer_of meets its contract, case by case. Assumes nothing.
 use mathlib.Core.Path.{ap, sym}
 use Rattle.answers.specs.Answers.{answer_of}
-use borrow.Author.Rules.{rules}
 use Rattle.answers.proofs.answer_of.Goals as goal
 
 pub returns-in-Closed : goal.returns-in-Closed
@@ -12,5 +11,4 @@ returns-in-Blocked c = sym (ap (answer_of c.args.a.key) c.in-Blocked.is)
 
 pub returns-in-Open : goal.returns-in-Open
 returns-in-Open c =
-    let p = c in
-    sym (ap (answer_of p.args.a.key) p.in-Open.is)
+    sym (ap (answer_of c.args.a.key) c.in-Open.is)

@@ -1,7 +1,6 @@
 -- offer_of meets its contract, case by case. Assumes nothing.
 use mathlib.Core.Path.{ap, sym, ◌∙◌}
 use Rattle.answers.specs.Answers.{offer_of}
-use borrow.Author.Rules.{rules}
 use Rattle.answers.proofs.offer_of.Goals as goal
 
 pub returns-in-Found : goal.returns-in-Found

@@ -11,9 +11,8 @@ loop-i-init c = (refl, refl)
 
 pub loop-i-preserved : goal.loop-i-preserved
 loop-i-preserved c =
-    let p = c in
-    let n = length p.args.words.now in
-    (simp length-set p.loop-i.invariant.0, clears p.loop-i.words _ n (omega arith) ∙ p.loop-i.invariant.1)
+    let n = length c.args.words.now in
+    (simp length-set c.loop-i.invariant.0, clears c.loop-i.words _ n (omega arith) ∙ c.loop-i.invariant.1)
 
 pub shape_of-words : goal.shape_of-words
 shape_of-words c = c.loop-i.invariant.0

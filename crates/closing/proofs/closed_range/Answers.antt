@@ -1,6 +1,4 @@
 -- `closing::closed_range` meets its contract. Assumes nothing.
-use borrow.Author.Rules.{rules}
-use borrow.Author.Rules.{rules}
 use Rattle.closing.specs.Closings.{closed_range}
 use Rattle.closing.proofs.closed_range.Goals as goal
 

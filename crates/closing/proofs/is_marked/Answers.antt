@@ -1,5 +1,4 @@
 -- `closing::is_marked` meets its contract. Assumes nothing.
-use borrow.Author.Rules.{rules}
 use Rattle.closing.proofs.ClosingLaws.{past_marks, at_mark}
 use Rattle.closing.proofs.is_marked.Goals as goal
 

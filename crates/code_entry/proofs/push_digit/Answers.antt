@@ -9,8 +9,7 @@ use Rattle.code_entry.proofs.push_digit.Goals as goal
 -- the value with one digit more
 fits : (c : Then-code-lt-MOST_DIGITS) → let a = c.args in a.code.value * 10 + a.digit < 10 ^ 15
 fits c =
-    let p = c in
-    push_fits p.args.code p.args.digit p.requires.0 p.requires.1 c.if-code-lt-MOST_DIGITS.true
+    push_fits c.args.code c.args.digit c.requires.0 c.requires.1 c.if-code-lt-MOST_DIGITS.true
 
 pub overflow_mul-result : goal.overflow_mul-result
 overflow_mul-result c = record { fits = omega (arith, fits (goal.at.overflow_mul-result c).Then-code-lt-MOST_DIGITS) }

@@ -20,33 +20,28 @@ whole : (c : Else-last-first) →
     code_range true (digits_of a.first) (digits_of a.last)
     ≡ whole_range (range_of a.first.count a.first.value (a.last.value + 1 - a.first.value))
 whole c =
-    let p = c in
-    rising p.args.first p.args.last p.requires.0 p.requires.1 (omega arith) c.if-last-first.false
+    rising c.args.first c.args.last c.requires.0 c.requires.1 (omega arith) c.if-last-first.false
 
 pub returns-then-first-last : goal.returns-then-first-last
 returns-then-first-last c =
-    let p = c in
-    sym (unequal p.args.first p.args.last p.requires.0 p.requires.1 c.if-first-last.true)
+    sym (unequal c.args.first c.args.last c.requires.0 c.requires.1 c.if-first-last.true)
 
 pub returns-then-last-first : goal.returns-then-last-first
 returns-then-last-first c =
-    let p = c in
-    sym (falling p.args.first p.args.last p.requires.0 p.requires.1 (alike (goal.at.returns-then-last-first c).Else-first-last) c.if-last-first.true)
+    sym (falling c.args.first c.args.last c.requires.0 c.requires.1 (alike (goal.at.returns-then-last-first c).Else-first-last) c.if-last-first.true)
 
 pub overflow_add-count : goal.overflow_add-count
 overflow_add-count c =
-    let p = c in
     let h = c.if-last-first.false in
     let e = alike (goal.at.overflow_add-count c).Else-first-last in
-    let m = last_fits p.args.first p.args.last p.requires.0 p.requires.1 e h p.requires.2 in
+    let m = last_fits c.args.first c.args.last c.requires.0 c.requires.1 e h c.requires.2 in
     record { fits = omega (arith, m) }
 
 pub are_codes-requires : goal.are_codes-requires
 are_codes-requires c =
-    let p = c in
     let h = c.if-last-first.false in
     let e = alike (goal.at.are_codes-requires c).Else-first-last in
-    (p.requires.2, last_below p.args.first p.args.last p.requires.0 p.requires.1 e h)
+    (c.requires.2, last_below c.args.first c.args.last c.requires.0 c.requires.1 e h)
 
 pub returns-then-not-are_codes : goal.returns-then-not-are_codes
 returns-then-not-are_codes c =

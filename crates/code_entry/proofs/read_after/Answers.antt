@@ -27,12 +27,10 @@ is_end-requires c = (blanks (goal.at.is_end-requires c).After-skip_blanks-end).m
 
 pub returns-then-not-is_end : goal.returns-then-not-is_end
 returns-then-not-is_end c =
-    let p = c in
     let x = sym c.is_end.ensures ∙ c.if-not-is_end.true in
     refused _ (after_stray _ _ _ _ (no_dash (goal.at.returns-then-not-is_end c).After-skip_blanks-end) _ (blanks (goal.at.returns-then-not-is_end c).After-skip_blanks-end) x)
 
 pub returns : goal.returns
 returns c =
-    let p = c in
     let x = sym c.is_end.ensures ∙ c.if-not-is_end.false in
-    read _ (after_blank _ _ _ _ (no_dash (goal.at.returns c).After-skip_blanks-end) _ (blanks (goal.at.returns c).After-skip_blanks-end) x p.requires.1) (blank_entry _ _ _ (blanks (goal.at.returns c).After-skip_blanks-end) x).1
+    read _ (after_blank _ _ _ _ (no_dash (goal.at.returns c).After-skip_blanks-end) _ (blanks (goal.at.returns c).After-skip_blanks-end) x c.requires.1) (blank_entry _ _ _ (blanks (goal.at.returns c).After-skip_blanks-end) x).1

@@ -29,9 +29,8 @@ blanks : (c : After-skip_blanks-at) →
 blanks c = blanks_read _ _ _ (omega arith) c.skip_blanks-at.ensures
 
 first : (c : After-read_digits-first) →
-    let p = c in
-    let s = p.args.cell.now in
-    Digits p.read_digits-own.result.code s c.skip_blanks-at.result c.read_digits-first.result
+    let s = c.args.cell.now in
+    Digits c.read_digits-own.result.code s c.skip_blanks-at.result c.read_digits-first.result
 first c =
     let o : Digits (code_with 0 0) c.args.country.now 0 c.read_digits-own.result = digits_read _ _ _ _ (lit< tt) (omega arith) c.read_digits-own.ensures in
     let b : Blanks c.args.cell.now 0 c.skip_blanks-at.result = blanks_read _ _ _ (omega arith) c.skip_blanks-at.ensures in
@@ -45,7 +44,6 @@ read_digits-first-requires c = ((own (goal.at.read_digits-first-requires c).Afte
 
 pub returns-then-first-at : goal.returns-then-first-at
 returns-then-first-at c =
-    let p = c in
     sym (no_first _ _ _ (mine (goal.at.returns-then-first-at c).Else-own-country) _ (blanks (goal.at.returns-then-first-at c).After-skip_blanks-at) _ (first (goal.at.returns-then-first-at c).After-read_digits-first) c.if-first-at.true)
 
 pub is_code-requires : goal.is_code-requires
@@ -53,19 +51,16 @@ is_code-requires c = (first (goal.at.is_code-requires c).After-read_digits-first
 
 pub returns-then-not-is_code : goal.returns-then-not-is_code
 returns-then-not-is_code c =
-    let p = c in
     let q = sym c.is_code.ensures ∙ c.if-not-is_code.true in
     sym (first_not_allowed _ _ _ (mine (goal.at.returns-then-not-is_code c).Else-own-country) _ (blanks (goal.at.returns-then-not-is_code c).After-skip_blanks-at) _ (first (goal.at.returns-then-not-is_code c).After-read_digits-first) q)
 
 pub read_after-requires : goal.read_after-requires
 read_after-requires c =
-    let p = c in
     let q = sym c.is_code.ensures ∙ c.if-not-is_code.false in
     ((own (goal.at.read_after-requires c).After-read_digits-own).held, (first (goal.at.read_after-requires c).After-read_digits-first).held, q, (first (goal.at.read_after-requires c).After-read_digits-first).most)
 
 pub returns : goal.returns
 returns c =
-    let p = c in
     let n = c.if-first-at.false in
     let q = sym c.is_code.ensures ∙ c.if-not-is_code.false in
     c.read_after.ensures

@@ -17,16 +17,14 @@ run : (c : After-read_digits-second) →
 run c = digits_read _ _ _ _ c.requires.0 c.requires.3 c.read_digits-second.ensures
 
 blanks : (c : After-skip_blanks-end) →
-    let p = c in
-    Blanks p.args.cell.now p.read_digits-second.result.next c.skip_blanks-end.result
+    Blanks c.args.cell.now c.read_digits-second.result.next c.skip_blanks-end.result
 blanks c = blanks_read _ _ _ (digits_read _ _ _ _ c.requires.0 c.requires.3 c.read_digits-second.ensures).most c.skip_blanks-end.ensures
 
 -- an allowed second code, and the end after it
 joined : (c : Else-not-is_end) →
-    let p = c in
-    let a = p.args in
+    let a = c.args in
     (second_part a.own a.first (entry_of (drop a.at a.cell.now))
-    ≡ code_range true (digits_of a.first) (digits_of p.read_digits-second.result.code))
+    ≡ code_range true (digits_of a.first) (digits_of c.read_digits-second.result.code))
     × (a.at + length (entry_of (drop a.at a.cell.now)) ≡ c.skip_blanks-end.result)
 joined c =
     let n = c.if-second-at.false in
@@ -57,21 +55,17 @@ is_end-requires c = (blanks (goal.at.is_end-requires c).After-skip_blanks-end).m
 pub returns-then-not-is_end : goal.returns-then-not-is_end
 returns-then-not-is_end c =
     let q = sym c.is_end.ensures ∙ c.if-not-is_end.true in
-    let p = c in
     refused _ (second_stray _ _ _ _ _ (run (goal.at.returns-then-not-is_end c).After-read_digits-second) _ (blanks (goal.at.returns-then-not-is_end c).After-skip_blanks-end) q)
 
 pub range_between-requires : goal.range_between-requires
 range_between-requires c =
-    let p = c in
-    (p.requires.1, (run (goal.at.range_between-requires c).After-read_digits-second).held, p.requires.2)
+    (c.requires.1, (run (goal.at.range_between-requires c).After-read_digits-second).held, c.requires.2)
 
 pub returns-in-Refused : goal.returns-in-Refused
 returns-in-Refused c =
-    let p = c in
-    refused _ ((joined (goal.at.returns-in-Refused c).Else-not-is_end).0 ∙ sym p.range_between.ensures ∙ c.in-Refused.is)
+    refused _ ((joined (goal.at.returns-in-Refused c).Else-not-is_end).0 ∙ sym c.range_between.ensures ∙ c.in-Refused.is)
 
 pub returns-in-Codes : goal.returns-in-Codes
 returns-in-Codes c =
-    let p = c in
     let j = joined (goal.at.returns-in-Codes c).Else-not-is_end in
-    read _ (j.0 ∙ sym p.range_between.ensures ∙ c.in-Codes.is) j.1
+    read _ (j.0 ∙ sym c.range_between.ensures ∙ c.in-Codes.is) j.1

@@ -13,14 +13,13 @@ known :
     (c : Else-second-eq0)
     → let w = c.args.key in
     (w < keys_end) × (0 < first w) × (first w ≡ 2 → ⊥) × (first w ≡ 8 → ⊥) × (0 < second w)
-known c =
-    let p = c in (
-      p.if-key-ge-KEYS_END.false,
-      positive p.if-first-eq0.false,
-      p.if-first-eq2.false,
-      p.if-first-eq8.false,
-      positive c.if-second-eq0.false,
-    )
+known c = (
+  c.if-key-ge-KEYS_END.false,
+  positive c.if-first-eq0.false,
+  c.if-first-eq2.false,
+  c.if-first-eq8.false,
+  positive c.if-second-eq0.false,
+)
 
 pub returns-then-key-ge-KEYS_END : goal.returns-then-key-ge-KEYS_END
 returns-then-key-ge-KEYS_END c = sym (no_key _ c.if-key-ge-KEYS_END.true)
@@ -36,9 +35,8 @@ returns-then-first-eq8 c = sym (by_one _ c.if-key-ge-KEYS_END.false 7 refl c.if-
 
 pub returns-then-second-eq0 : goal.returns-then-second-eq0
 returns-then-second-eq0 c =
-    let p = c in
-    let f = positive p.if-first-eq0.false in
-    sym (no_second _ p.if-key-ge-KEYS_END.false f p.if-first-eq2.false p.if-first-eq8.false c.if-second-eq0.true)
+    let f = positive c.if-first-eq0.false in
+    sym (no_second _ c.if-key-ge-KEYS_END.false f c.if-first-eq2.false c.if-first-eq8.false c.if-second-eq0.true)
 
 pub returns-then-is_two_digits : goal.returns-then-is_two_digits
 returns-then-is_two_digits c =

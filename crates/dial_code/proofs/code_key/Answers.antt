@@ -22,8 +22,7 @@ place :
     × (key_from 1 (digits a.count a.value) < 11 ^ 15)
 place c =
     let l = c.loop-left in
-    let p = c.before.before.before in
-    (last_place l.left l.v l.weight c.loop-left-test.true l.invariant.1, sent_below _ _ p.if-count-gt-MOST_DIGITS.false)
+    (last_place l.left l.v l.weight c.loop-left-test.true l.invariant.1, sent_below _ _ c.if-count-gt-MOST_DIGITS.false)
 
 pub returns-then-count-eq0 : goal.returns-then-count-eq0
 returns-then-count-eq0 c = sym (no_count _ _ c.if-count-eq0.true)
@@ -55,16 +54,14 @@ loop-left-preserved c =
 pub returns-then-v-gt0 : goal.returns-then-v-gt0
 returns-then-v-gt0 c =
     let l = c.loop-left in
-    let q = c.before.before.before.before in
     sym
-    (large _ _ (positive q.if-count-eq0.false) q.if-count-gt-MOST_DIGITS.false
+    (large _ _ (positive c.if-count-eq0.false) c.if-count-gt-MOST_DIGITS.false
     (over l.left l.v _ _ (omega arith) l.invariant.3 c.if-v-gt0.true))
 
 pub returns : goal.returns
 returns c =
     let l = c.loop-left in
-    let q = c.before.before.before.before in
     ap Key (all_weighed _ _ _ (omega arith) l.invariant.0)
     ∙ sym
-    (sent _ _ (positive q.if-count-eq0.false) q.if-count-gt-MOST_DIGITS.false
+    (sent _ _ (positive c.if-count-eq0.false) c.if-count-gt-MOST_DIGITS.false
     (none_over l.left l.v _ _ (omega arith) l.invariant.3 c.if-v-gt0.false))

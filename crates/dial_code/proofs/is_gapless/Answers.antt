@@ -10,39 +10,33 @@ loop-left-init c = (omega arith, refl)
 
 pub returns-then-rest-ne0 : goal.returns-then-rest-ne0
 returns-then-rest-ne0 c =
-    let p = c.before.before in
-    let l = p.loop-left in
-    sym (l.invariant.1 ∙ more_behind _ _ p.loop-left-test.true l.invariant.0 c.if-places-eq0.true c.if-rest-ne0.true)
+    let l = c.loop-left in
+    sym (l.invariant.1 ∙ more_behind _ _ c.loop-left-test.true l.invariant.0 c.if-places-eq0.true c.if-rest-ne0.true)
 
 pub returns-then-places-eq0-2 : goal.returns-then-places-eq0-2
 returns-then-places-eq0-2 c =
-    let p = c.before.before.before in
-    let l = p.loop-left in
-    sym (l.invariant.1 ∙ nothing_left _ _ p.loop-left-test.true l.invariant.0 c.if-rest-ne0.false c.if-places-eq0-2.true)
+    let l = c.loop-left in
+    sym (l.invariant.1 ∙ nothing_left _ _ c.loop-left-test.true l.invariant.0 c.if-rest-ne0.false c.if-places-eq0-2.true)
 
 pub returns-then-places-eq0 : goal.returns-then-places-eq0
 returns-then-places-eq0 c =
-    let p = c.before.before.before in
-    let l = p.loop-left in
-    sym (l.invariant.1 ∙ ends_here _ _ p.loop-left-test.true l.invariant.0 c.if-places-eq0.true c.if-rest-ne0.false c.if-places-eq0-2.false)
+    let l = c.loop-left in
+    sym (l.invariant.1 ∙ ends_here _ _ c.loop-left-test.true l.invariant.0 c.if-places-eq0.true c.if-rest-ne0.false c.if-places-eq0-2.false)
 
 pub returns-then-places-lt11 : goal.returns-then-places-lt11
 returns-then-places-lt11 c =
-    let p = c.before.before in
-    let l = p.loop-left in
-    sym (l.invariant.1 ∙ second_gap _ _ p.loop-left-test.true l.invariant.0 c.if-places-eq0.false c.if-places-lt11.true)
+    let l = c.loop-left in
+    sym (l.invariant.1 ∙ second_gap _ _ c.loop-left-test.true l.invariant.0 c.if-places-eq0.false c.if-places-lt11.true)
 
 pub returns-then-places-lt-FIRST_OF_THREE : goal.returns-then-places-lt-FIRST_OF_THREE
 returns-then-places-lt-FIRST_OF_THREE c =
-    let p = c.before.before.before in
-    let l = p.loop-left in
-    sym (l.invariant.1 ∙ first_gap _ _ p.loop-left-test.true l.invariant.0 c.if-places-eq0.false c.if-places-lt-FIRST_OF_THREE.true)
+    let l = c.loop-left in
+    sym (l.invariant.1 ∙ first_gap _ _ c.loop-left-test.true l.invariant.0 c.if-places-eq0.false c.if-places-lt-FIRST_OF_THREE.true)
 
 pub loop-left-preserved : goal.loop-left-preserved
 loop-left-preserved c =
-    let p = c.before.before.before in
-    let l = p.loop-left in
-    (omega arith, l.invariant.1 ∙ goes_on _ _ p.loop-left-test.true l.invariant.0 c.if-places-eq0.false c.if-places-lt11.false c.if-places-lt-FIRST_OF_THREE.false)
+    let l = c.loop-left in
+    (omega arith, l.invariant.1 ∙ goes_on _ _ c.loop-left-test.true l.invariant.0 c.if-places-eq0.false c.if-places-lt11.false c.if-places-lt-FIRST_OF_THREE.false)
 
 pub returns : goal.returns
 returns c = sym (c.loop-left.invariant.1 ∙ all_read _ _ (omega arith))

@@ -17,12 +17,11 @@ room :
     → let l = c.loop-i in
     l.key + (c.wide-b.result - 47) * l.weight + 11 ^ (15 - (l.i + 1)) ≤ 11 ^ 15
 room c =
-    let p = c in
-    let l = p.loop-i in
+    let l = c.loop-i in
     weighs l.i l.key l.weight (c.wide-b.result - 47)
     l.invariant.4
     (omega arith)
-    (l.invariant.3 p.loop-i-test.true)
+    (l.invariant.3 c.loop-i-test.true)
     (omega arith)
 
 pub returns-then-number-eq0 : goal.returns-then-number-eq0
@@ -39,23 +38,21 @@ loop-i-init c = (starts _ (omega arith) (omega arith) c.if-number-eq48.false, om
 
 pub returns-then-b-lt48 : goal.returns-then-b-lt48
 returns-then-b-lt48 c =
-    let p = c in
     sym
     (not_ascii _ _ _ _
-    p.loop-i.invariant.0
-    p.loop-i-test.true
-    p.wide-b.ensures.0
+    c.loop-i.invariant.0
+    c.loop-i-test.true
+    c.wide-b.ensures.0
     (and_left_false _ (lt-leb 48 _ c.if-b-lt48.true)))
 
 pub returns-then-b-gt57 : goal.returns-then-b-gt57
 returns-then-b-gt57 c =
-    let p = c in
     sym
     (not_ascii _ _ _ _
-    p.loop-i.invariant.0
-    p.loop-i-test.true
-    p.wide-b.ensures.0
-    (and_right_false (leb 48 p.wide-b.result) (lt-leb _ 57 c.if-b-gt57.true)))
+    c.loop-i.invariant.0
+    c.loop-i-test.true
+    c.wide-b.ensures.0
+    (and_right_false (leb 48 c.wide-b.result) (lt-leb _ 57 c.if-b-gt57.true)))
 
 pub overflow_mul-key : goal.overflow_mul-key
 overflow_mul-key c = record { fits = omega (arith, room (goal.at.overflow_mul-key c).Else-b-gt57) }
@@ -65,10 +62,9 @@ overflow_add-key c = record { fits = omega (arith, room (goal.at.overflow_add-ke
 
 pub loop-i-preserved : goal.loop-i-preserved
 loop-i-preserved c =
-    let p = c in
-    let l = p.loop-i in
-    let h = p.loop-i-test.true in (
-      turn _ _ _ _ _ l.invariant.0 h (l.invariant.3 h) p.wide-b.ensures.0 c.if-b-lt48.false c.if-b-gt57.false,
+    let l = c.loop-i in
+    let h = c.loop-i-test.true in (
+      turn _ _ _ _ _ l.invariant.0 h (l.invariant.3 h) c.wide-b.ensures.0 c.if-b-lt48.false c.if-b-gt57.false,
       omega arith,
       omega arith,
       next_weight _ _ _ l.invariant.3 l.invariant.2,

@@ -5,13 +5,11 @@ use Rattle.dialled_number.proofs.sent_number_key.Goals as goal
 
 pub returns-then-key : goal.returns-then-key
 returns-then-key c =
-    let p = c in
-    sym (first_zero _ _ _ (sym p.code_key.ensures ∙ c.in-Key.is) c.if-key.true)
+    sym (first_zero _ _ _ (sym c.code_key.ensures ∙ c.in-Key.is) c.if-key.true)
 
 pub returns-in-Refused : goal.returns-in-Refused
 returns-in-Refused c = sym (no_code _ _ _ (sym c.code_key.ensures ∙ c.in-Refused.is))
 
 pub returns-else-key : goal.returns-else-key
 returns-else-key c =
-    let p = c in
-    sym (first_other _ _ _ (sym p.code_key.ensures ∙ c.in-Key.is) c.if-key.false)
+    sym (first_other _ _ _ (sym c.code_key.ensures ∙ c.in-Key.is) c.if-key.false)

@@ -1,5 +1,4 @@
 -- `effect::change_of` meets its contract. Assumes nothing.
-use borrow.Author.Rules.{rules}
 use Rattle.effect.proofs.DayLaws.{changes_to}
 use Rattle.effect.proofs.change_of.Goals as goal
 

@@ -1,7 +1,6 @@
 -- `effect::effective_day` meets its contract. Assumes nothing.
 use mathlib.Core.Path.{◌≡◌, ap, sym, ◌∙◌}
 use Prim.Native.Nat.{max}
-use borrow.Author.Rules.{rules}
 use Rattle.effect.specs.Lines.{wanted_by}
 use Rattle.effect.proofs.DayLaws.{noticed_day, raised_day, wanted_day}
 use Rattle.effect.proofs.effective_day.Goals.{After-later-wanted}
@@ -18,11 +17,9 @@ returns-then-plan c = noticed_day _ _ _ c.if-plan.true (wants (goal.at.returns-t
 
 pub returns-then-is_increase : goal.returns-then-is_increase
 returns-then-is_increase c =
-    let d = c in
-    raised_day _ _ _ d.if-plan.false (sym d.is_increase.ensures ∙ c.if-is_increase.true) (wants (goal.at.returns-then-is_increase c).After-later-wanted)
+    raised_day _ _ _ c.if-plan.false (sym c.is_increase.ensures ∙ c.if-is_increase.true) (wants (goal.at.returns-then-is_increase c).After-later-wanted)
     c.later-then-is_increase.ensures
 
 pub returns : goal.returns
 returns c =
-    let d = c in
-    wanted_day _ _ _ d.if-plan.false (sym d.is_increase.ensures ∙ c.if-is_increase.false) (wants (goal.at.returns c).After-later-wanted)
+    wanted_day _ _ _ c.if-plan.false (sym c.is_increase.ensures ∙ c.if-is_increase.false) (wants (goal.at.returns c).After-later-wanted)

@@ -2,7 +2,6 @@
 use mathlib.Core.Path.{◌≡◌}
 use Prim.Native.Nat.{◌+◌, ◌<◌}
 use native.Mathlib.Omega.{arith}
-use borrow.Author.Rules.{rules}
 use lib.ListN.{length}
 use Rattle.listing.proofs.Turns.{up_to, some_room, small_enough}
 use Rattle.listing.proofs.Answering.{header_written, lines_fit, all_written}
@@ -33,7 +32,6 @@ started c =
 pub write_lines-requires : goal.write_lines-requires
 write_lines-requires c =
     let p = c.requires in
-    let d = c in
     let w = started (goal.at.write_lines-requires c).After-write_header in
     let at = up_to w.0 c.in-UpTo.is in
     record { words_value = p.words_value.0; day_in_bounds = lines_fit _ _ p.words_value.0 p.words_value.1 (some_line (goal.at.write_lines-requires c).After-write_header) _ p.day_in_bounds at w.1 }
@@ -41,7 +39,6 @@ write_lines-requires c =
 pub returns-in-UpTo : goal.returns-in-UpTo
 returns-in-UpTo c =
     let p = c.requires in
-    let d = c in
     let w = started (goal.at.returns-in-UpTo c).After-write_header in
     let at = up_to w.0 c.in-UpTo.is in both (all_written _ _ p.words_value.0 p.words_value.1 (some_line (goal.at.returns-in-UpTo c).After-write_header) _ p.day_in_bounds at w.1
     c.write_lines.ensures.value

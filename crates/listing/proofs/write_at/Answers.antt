@@ -1,7 +1,5 @@
 -- write_at meets its contract: no line, or one that has room. Assumes nothing.
 use mathlib.Core.Path.{sym, ◌∙◌}
-use borrow.Author.Rules.{rules}
-use borrow.Author.Tests.{not-true, not-false}
 use Rattle.listing.proofs.Turns.{writes_none, line_written, up_to, some_room, small_enough}
 use lib.Seq.{sets}
 use Prim.Native.Nat.{◌+◌}
@@ -22,9 +20,8 @@ line_done : (c : After-write_line) →
     (c.write_line.result ≡ UpTo (a.from + length (encode_lines ls)))
     × (c.write_line.new.out ≡ sets a.out.now a.from (encode_lines ls))
 line_done c =
-    let t = c in
     line_written _ _ _ _ _
-    (sym t.is_standing.ensures ∙ t.if-not-is_standing.false)
+    (sym c.is_standing.ensures ∙ c.if-not-is_standing.false)
     c.requires
     c.line_of.ensures
     c.write_line.ensures.value

@@ -1,16 +1,11 @@
 -- write_lines meets its contract. The loop's invariant: the lines of the entries left, stored from `end` on, end where all lines
 -- stored from `from` on end, and give what those give. The measure is the number of entries left. Assumes nothing.
-use mathlib.Core.Path.{◌≡◌, refl, ap, sym, ◌∙◌}
+use mathlib.Core.Path.{refl, ap, sym, ◌∙◌}
 use mathlib.Core.List.{List}
-use Prim.Native.Nat.{◌+◌, ◌*◌, ◌≤◌}
 use native.Mathlib.Omega.{arith}
-use borrow.Author.Rules.{rules}
 use lib.ListN.{length}
 use Rattle.line_writing.specs.LineLayout.{encode_lines}
-use Rattle.book_words.specs.Layout.{most_words, entry_words, entries_from, entries_of}
 use Rattle.book.proofs.Headers.{sound_book, sound_count}
-use Rattle.listing.specs.List.{standing_lines}
-use Rattle.standing.specs.Pass.{passed}
 use Rattle.standing.proofs.Turns.{length_row, none_left, starts}
 use Rattle.listing.proofs.Turns.{puts, whole}
 use lib.Seq.{sets}
@@ -31,9 +26,8 @@ loop-left-init c =
 
 pub write_at-end-requires : goal.write_at-end-requires
 write_at-end-requires c =
-    let p = c in
-    let n = length_row _ _ _ c.loop-left-test.true p.args.day c.entry_at-e.ensures in
-    omega (arith, n, p.requires.day_in_bounds)
+    let n = length_row _ _ _ c.loop-left-test.true c.args.day c.entry_at-e.ensures in
+    omega (arith, n, c.requires.day_in_bounds)
 
 pub loop-left-preserved : goal.loop-left-preserved
 loop-left-preserved c =

@@ -1,21 +1,13 @@
 -- write_lines meets its contract. The loop's invariant: the lines of the entries left, stored from `end` on, end where all lines
 -- stored from `from` on end, and give what those give. The measure is the number of entries left. Assumes nothing.
-use mathlib.Core.Path.{◌≡◌, refl, ap, sym, ◌∙◌}
-use mathlib.Core.List.{List}
+use mathlib.Core.Path.{◌≡◌}
 use Prim.Native.Nat.{◌+◌, ◌*◌, ◌≤◌}
-use native.Mathlib.Omega.{arith}
-use borrow.Author.Rules.{rules}
 use lib.ListN.{length}
 use Rattle.line_writing.specs.LineLayout.{encode_lines}
 use Rattle.book_words.specs.Layout.{most_words, entry_words, entries_from, entries_of}
-use Rattle.book.proofs.Headers.{sound_book, sound_count}
 use Rattle.listing.specs.List.{standing_lines}
 use Rattle.standing.specs.Pass.{passed}
-use Rattle.standing.proofs.Turns.{length_row, none_left, starts}
-use Rattle.listing.proofs.Turns.{puts, whole}
 use lib.Seq.{sets}
-use Rattle.notice_line.specs.declared.Line.{Line}
-use Rattle.line_writing.proofs.LineLayoutLaws.{lines_nil}
 use Rattle.listing.proofs.write_lines.Given as goal
 
 abbrev pub invariant-loop-left : goal.invariant-loop-left

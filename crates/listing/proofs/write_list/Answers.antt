@@ -3,12 +3,11 @@ use mathlib.Core.Path.{◌≡◌, ap, sym, ◌∙◌}
 use mathlib.Core.Bool.{true}
 use Prim.Native.Nat.{◌≤◌}
 use native.Mathlib.Omega.{arith}
-use borrow.Author.Rules.{rules}
 use lib.ListN.{length}
 use Rattle.calendar.specs.Time.{is_received_day}
 use Rattle.book.specs.Answers.{book_refusal}
 use Rattle.book.proofs.Usable.{usable_sound}
-use borrow.Author.Tests.{not-true, not-false, leb-true, leb-false}
+use borrow.Author.Tests.{leb-true, leb-false}
 use Rattle.listing.proofs.Turns.{whole}
 use Rattle.listing.proofs.Answering.{no_book, no_day, no_line, no_room, has_room, refused, done}
 use Rattle.dial_code.proofs.Tests.{positive}
@@ -67,32 +66,29 @@ is_held-requires c =
 
 pub returns-then-not-is_held : goal.returns-then-not-is_held
 returns-then-not-is_held c =
-    let h = c in
-    let a = h.args in
+    let a = c.args in
     let p = ready (goal.at.returns-then-not-is_held c).After-count_lines-lines in both (refused a.words.now a.day a.out.now c.refused-then-not-is_held.ensures
     (no_room a.words.now a.day _ p.0 p.1
-    (λ e. h.if-lines-eq0.false (p.2 ∙ e))
-    (leb-false _ _ (sym h.is_held.ensures ∙ c.if-not-is_held.true)))
+    (λ e. c.if-lines-eq0.false (p.2 ∙ e))
+    (leb-false _ _ (sym c.is_held.ensures ∙ c.if-not-is_held.true)))
     (λ e. omega arith))
 
 pub write_all-length-requires : goal.write_all-length-requires
 write_all-length-requires c =
-    let h = c in
     let p = ready (goal.at.write_all-length-requires c).After-count_lines-lines in
     record {
       words_value = (usable_sound _ p.0, p.1);
-      lines_value = (p.2, positive h.if-lines-eq0.false);
+      lines_value = (p.2, positive c.if-lines-eq0.false);
       day_in_bounds = fits (goal.at.write_all-length-requires c).Else-not-is_held;
     }
 
 pub returns : goal.returns
 returns c =
-    let h = c in
-    let a = h.args in
+    let a = c.args in
     let p = ready (goal.at.returns c).After-count_lines-lines in
     let u = fits (goal.at.returns c).Else-not-is_held in
     let w = c.write_all-length.ensures in both (done a.words.now a.day a.out.now
-    (has_room a.words.now a.day _ p.0 p.1 (λ e. h.if-lines-eq0.false (p.2 ∙ e)) u)
+    (has_room a.words.now a.day _ p.0 p.1 (λ e. c.if-lines-eq0.false (p.2 ∙ e)) u)
     u
     w.value
     w.after)

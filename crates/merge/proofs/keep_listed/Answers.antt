@@ -1,15 +1,12 @@
 -- `merge::keep_listed` meets its contract. The loop's invariant: keeping what is left of the code's entries does the whole.
 -- Assumes nothing.
-use mathlib.Core.Path.{◌≡◌, refl, sym, ◌∙◌}
+use mathlib.Core.Path.{refl, sym, ◌∙◌}
 use mathlib.Core.List.{[], ◌∷◌}
-use Prim.Native.Nat.{◌+◌, ◌-◌, ◌*◌, ◌≤◌, min}
+use Prim.Native.Nat.{◌+◌, ◌-◌}
 use native.Mathlib.Omega.{arith}
-use borrow.Author.Rules.{rules}
-use lib.ListN.{length}
-use Rattle.book_words.specs.Layout.{entry_words, most_words, entries_from}
+use Rattle.book_words.specs.Layout.{entry_words, entries_from}
 use Rattle.book_words.proofs.Rows.{rows_none}
-use Rattle.merge_rule.specs.Passes.{kept_of, status_of, rest_after}
-use Rattle.book_words.proofs.Stores.{Writing, writing_all, writing_same, writing_on}
+use Rattle.book_words.proofs.Stores.{writing_all, writing_same, writing_on}
 use Rattle.book_words.proofs.Stores.{writing_counted, writing_end}
 use Rattle.merge.proofs.PassLaws.{next_row, KeptTurn, kept_on, kept_off, kept_stops, kept_none}
 use Rattle.merge.proofs.keep_listed.Goals.{Then-e-change-2}
@@ -33,10 +30,9 @@ at_kept c =
 
 pub returns-then-e-change : goal.returns-then-e-change
 returns-then-e-change c =
-    let p = c in
-    let a = p.args in
-    let l = p.loop-left in
-    let q = next_row a.old.now l.at l.left p.loop-left-test.true p.old_entry-e.ensures in
+    let a = c.args in
+    let l = c.loop-left in
+    let q = next_row a.old.now l.at l.left c.loop-left-test.true c.old_entry-e.ensures in
     let k = kept_stops a.change l.status _ _ q c.if-e-change.true in record {
       passed_listed = record {
         counted = writing_counted l.invariant.3 k.kept;
@@ -50,8 +46,7 @@ returns-then-e-change c =
 
 pub put-requires : goal.put-requires
 put-requires c =
-    let l = c in
-    omega (arith, l.loop-left.invariant.3.same, l.requires.0)
+    omega (arith, c.loop-left.invariant.3.same, c.requires.0)
 
 pub loop-left-preserved-then-e-change-2 : goal.loop-left-preserved-then-e-change-2
 loop-left-preserved-then-e-change-2 c =
@@ -67,10 +62,9 @@ loop-left-preserved-then-e-change-2 c =
 
 pub loop-left-preserved : goal.loop-left-preserved
 loop-left-preserved c =
-    let p = c in
-    let a = p.args in
-    let l = p.loop-left in
-    let q = next_row a.old.now l.at l.left p.loop-left-test.true p.old_entry-e.ensures in
+    let a = c.args in
+    let l = c.loop-left in
+    let q = next_row a.old.now l.at l.left c.loop-left-test.true c.old_entry-e.ensures in
     let k = kept_off a.change l.status _ _ q c.if-e-change.false c.if-e-change-2.false in (
       omega arith,
       omega arith,

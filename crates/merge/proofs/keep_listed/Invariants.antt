@@ -1,17 +1,11 @@
 -- `merge::keep_listed` meets its contract. The loop's invariant: keeping what is left of the code's entries does the whole.
 -- Assumes nothing.
-use mathlib.Core.Path.{◌≡◌, refl, sym, ◌∙◌}
-use mathlib.Core.List.{[], ◌∷◌}
+use mathlib.Core.Path.{◌≡◌}
 use Prim.Native.Nat.{◌+◌, ◌-◌, ◌*◌, ◌≤◌, min}
-use native.Mathlib.Omega.{arith}
-use borrow.Author.Rules.{rules}
 use lib.ListN.{length}
 use Rattle.book_words.specs.Layout.{entry_words, most_words, entries_from}
-use Rattle.book_words.proofs.Rows.{rows_none}
 use Rattle.merge_rule.specs.Passes.{kept_of, status_of, rest_after}
-use Rattle.book_words.proofs.Stores.{Writing, writing_all, writing_same, writing_on}
-use Rattle.book_words.proofs.Stores.{writing_counted, writing_end}
-use Rattle.merge.proofs.PassLaws.{next_row, KeptTurn, kept_on, kept_off, kept_stops, kept_none}
+use Rattle.book_words.proofs.Stores.{Writing}
 use Rattle.merge.proofs.keep_listed.Given as goal
 
 abbrev pub invariant-loop-left : goal.invariant-loop-left

@@ -1,16 +1,10 @@
 -- `merge::merge` meets its contract. The invariant: merging what is left of the old entries with the lines that are left comes to the
 -- merge of all (`Merging`), and the numbers of the place stay small. The measure is the number of lines left. Assumes nothing.
 use mathlib.Core.Path.{ap}
-use Prim.Native.Nat.{◌+◌, ◌-◌, ◌*◌, ◌≤◌, min}
 use native.Mathlib.Omega.{arith}
-use borrow.Author.Rules.{rules}
-use lib.ListN.{length}
-use Rattle.book_words.specs.Layout.{entry_words, most_words}
 use Rattle.book_words.specs.declared.Header.{Header}
 use Rattle.book.proofs.Headers.{count_room}
-use Rattle.notice.specs.Lines.{lines_at}
-use Rattle.merge.specs.Merge.{most_merged}
-use Rattle.merge.proofs.Merging.{Merging, merge_starts, pass_most, merge_refused, merge_next, merge_dated, merge_counted}
+use Rattle.merge.proofs.Merging.{merge_starts, pass_most, merge_refused, merge_next, merge_dated, merge_counted}
 use Rattle.merge.proofs.Merging.{merge_written, merge_same, merge_answers, merge_leaves}
 use Rattle.merge.proofs.merge.Goals as goal
 
@@ -26,26 +20,22 @@ loop-left-init c =
 
 pub loop-left-preserved-in-Refused : goal.loop-left-preserved-in-Refused
 loop-left-preserved-in-Refused c =
-    let d = c in
-    let i = d.loop-left.invariant in
-    (i.0, omega arith, merge_refused i.2 d.loop-left-test.true d.line_at.ensures c.in-Refused.is)
+    let i = c.loop-left.invariant in
+    (i.0, omega arith, merge_refused i.2 c.loop-left-test.true c.line_at.ensures c.in-Refused.is)
 
 pub pass_line-place-requires : goal.pass_line-place-requires
 pass_line-place-requires c =
-    let d = c in
-    let i = d.loop-left.invariant in
-    (omega (arith, i.2.puts.same, d.room_in-room.ensures), (i.0, omega (arith, i.1)))
+    let i = c.loop-left.invariant in
+    (omega (arith, i.2.puts.same, c.room_in-room.ensures), (i.0, omega (arith, i.1)))
 
 pub loop-left-preserved : goal.loop-left-preserved
 loop-left-preserved c =
-    let e = c in
-    let d = e in
-    let i = d.loop-left.invariant in
-    let h = d.loop-left-test.true in
+    let i = c.loop-left.invariant in
+    let h = c.loop-left-test.true in
     let p = c.pass_line-place.ensures in (
       p.passed.stands,
       pass_most _ _ _ _ _ _ _ p.passed h i.1,
-      merge_next i.2 h d.line_at.ensures e.in-Read.is e.change_of-change.ensures
+      merge_next i.2 h c.line_at.ensures c.in-Read.is c.change_of-change.ensures
           c.later-latest.ensures p.passed p.after,
     )
 

@@ -1,17 +1,11 @@
 -- `merge::merge` meets its contract. The invariant: merging what is left of the old entries with the lines that are left comes to the
 -- merge of all (`Merging`), and the numbers of the place stay small. The measure is the number of lines left. Assumes nothing.
-use mathlib.Core.Path.{ap}
 use Prim.Native.Nat.{◌+◌, ◌-◌, ◌*◌, ◌≤◌, min}
-use native.Mathlib.Omega.{arith}
-use borrow.Author.Rules.{rules}
 use lib.ListN.{length}
 use Rattle.book_words.specs.Layout.{entry_words, most_words}
-use Rattle.book_words.specs.declared.Header.{Header}
-use Rattle.book.proofs.Headers.{count_room}
 use Rattle.notice.specs.Lines.{lines_at}
 use Rattle.merge.specs.Merge.{most_merged}
-use Rattle.merge.proofs.Merging.{Merging, merge_starts, pass_most, merge_refused, merge_next, merge_dated, merge_counted}
-use Rattle.merge.proofs.Merging.{merge_written, merge_same, merge_answers, merge_leaves}
+use Rattle.merge.proofs.Merging.{Merging}
 use Rattle.merge.proofs.merge.Given as goal
 
 abbrev pub invariant-loop-left : goal.invariant-loop-left

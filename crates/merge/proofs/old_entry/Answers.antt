@@ -1,6 +1,5 @@
 -- `merge::old_entry` meets its contract. Assumes nothing.
 use mathlib.Core.Path.{refl}
-use borrow.Author.Rules.{rules}
 use Rattle.book_words.specs.Layout.{entry_at}
 use Rattle.merge.proofs.old_entry.Goals as goal
 

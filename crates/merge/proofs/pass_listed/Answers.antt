@@ -3,7 +3,6 @@
 use mathlib.Core.Path.{◌≡◌}
 use mathlib.Core.List.{[], ◌∷◌, ◌++◌}
 use native.Mathlib.Omega.{arith}
-use borrow.Author.Rules.{rules}
 use lib.ListN.{length-append}
 use Rattle.book_words.specs.Layout.{entries_from}
 use Rattle.book_words.proofs.Rows.{length_rows}
@@ -15,14 +14,13 @@ use Rattle.merge.proofs.pass_listed.Goals as goal
 
 pub returns-then-k-change : goal.returns-then-k-change
 returns-then-k-change c =
-    let p = c in
-    let a = p.args in
+    let a = c.args in
     let es = entries_from a.old.now a.from.at a.from.left in
-    let k = p.keep_listed-k.ensures.passed_listed in
+    let k = c.keep_listed-k.ensures.passed_listed in
     rw (listed_same a.change es k.status c.if-k-change.true) (
     record {
       passed = record { counted = k.counted; stands = k.stands; fewer = k.fewer; left = k.left };
-      after = p.keep_listed-k.ensures.after;
+      after = c.keep_listed-k.ensures.after;
     })
 
 at_new : (c : Else-k-change) →
@@ -33,15 +31,13 @@ at_new c = listed_new _ _ c.keep_listed-k.ensures.passed_listed.status c.if-k-ch
 
 pub put-requires : goal.put-requires
 put-requires c =
-    let p = c in
-    omega (arith, p.keep_listed-k.auto.new, p.requires.0)
+    omega (arith, c.keep_listed-k.auto.new, c.requires.0)
 
 pub returns : goal.returns
 returns c =
-    let p = c in
-    let a = p.args in
-    let k = p.keep_listed-k.ensures in
-    let n = p.keep_listed-k.result.count in
+    let a = c.args in
+    let k = c.keep_listed-k.ensures in
+    let n = c.keep_listed-k.result.count in
     let kept = kept_of a.change (entries_from a.old.now a.from.at a.from.left) in
     let line = a.change ∷ [] in
     let put = c.put.ensures in
@@ -58,12 +54,11 @@ returns c =
 
 pub overflow_add-result : goal.overflow_add-result
 overflow_add-result c =
-    let p = c in
-    let a = p.args in
+    let a = c.args in
     let es = entries_from a.old.now a.from.at a.from.left in
     omega (
       arith,
-      p.keep_listed-k.ensures.passed_listed.counted,
+      c.keep_listed-k.ensures.passed_listed.counted,
       kept_most a.change es,
       length_rows a.old.now a.from.at a.from.left,
     )

@@ -1,19 +1,15 @@
 -- `merge::pass_unlisted` meets its contract. The loop's invariant: putting what is left of the gap does the whole of it, and codes
 -- remembered as alike are closed alike. Assumes nothing.
 use mathlib.Core.Path.{◌≡◌, refl, sym, ◌∙◌}
-use mathlib.Core.Logic.{⊎_elim}
 use mathlib.Core.List.{◌++◌}
-use Prim.Native.Nat.{◌+◌, ◌-◌, ◌*◌, ◌≤◌, min}
+use Prim.Native.Nat.{◌+◌, ◌-◌}
 use native.Mathlib.Omega.{arith}
-use borrow.Author.Rules.{rules}
-use borrow.Author.Tests.{not-false}
-use lib.ListN.{length}
-use Rattle.book_words.specs.Layout.{entry_words, most_words, entries_from}
+use Rattle.book_words.specs.Layout.{entry_words, entries_from}
 use Rattle.book_words.proofs.Rows.{rows_none}
-use Rattle.merge_rule.specs.Passes.{gap_below, rest_from, unlisted_as}
+use Rattle.merge_rule.specs.Passes.{gap_below, unlisted_as}
 use Rattle.closing.specs.Closings.{closes_by}
 use Rattle.closing.proofs.ClosingLaws.{ClosedAlike, anyway_alike, range_alike, range_closed}
-use Rattle.book_words.proofs.Stores.{Writing, writing_all, writing_on, writing_counted, writing_end}
+use Rattle.book_words.proofs.Stores.{writing_all, writing_on, writing_counted, writing_end}
 use Rattle.merge.proofs.PassLaws.{next_row, gap_on, gap_stops, gap_none, rest_on, rest_stops, rest_none, at_most_two}
 use Rattle.merge.proofs.pass_unlisted.Goals.{Joined-not-is_within, else-not-is_within, then-not-is_within}
 use Rattle.merge.proofs.pass_unlisted.Goals as goal
@@ -23,10 +19,9 @@ loop-left-init c = (omega arith, omega arith, omega arith, writing_all _ _ _, re
 
 pub returns-then-below-e : goal.returns-then-below-e
 returns-then-below-e c =
-    let p = c in
-    let a = p.args in
-    let l = p.loop-left in
-    let q = next_row a.old.now l.at l.left p.loop-left-test.true p.old_entry-e.ensures in
+    let a = c.args in
+    let l = c.loop-left in
+    let q = next_row a.old.now l.at l.left c.loop-left-test.true c.old_entry-e.ensures in
     let none = gap_stops a.below (closes_by a.plan a.marks.now) a.plan.closing _ _ q c.if-below-e.true in record {
       passed = record {
         counted = writing_counted l.invariant.3 none;
@@ -67,23 +62,20 @@ at_entry c =
 
 pub put_unlisted-count-requires : goal.put_unlisted-count-requires
 put_unlisted-count-requires c =
-    let l = c in
-    omega (arith, l.loop-left.invariant.2, l.loop-left.invariant.3.same, l.requires)
+    omega (arith, c.loop-left.invariant.2, c.loop-left.invariant.3.same, c.requires)
 
 pub loop-left-preserved : goal.loop-left-preserved
 loop-left-preserved c =
-    let j = c in
-    let p = j in
-    let a = p.args in
-    let l = p.loop-left in
-    let q = next_row a.old.now l.at l.left p.loop-left-test.true p.old_entry-e.ensures in
+    let a = c.args in
+    let l = c.loop-left in
+    let q = next_row a.old.now l.at l.left c.loop-left-test.true c.old_entry-e.ensures in
     let es = entries_from a.old.now (l.at + entry_words) (l.left - 1) in
     let put = c.put_unlisted-count.ensures in (
       omega arith,
       omega arith,
-      omega (arith, put.value, at_most_two a.plan.closing p.old_entry-e.result es j.if-not-is_within.alike.closed),
+      omega (arith, put.value, at_most_two a.plan.closing c.old_entry-e.result es c.if-not-is_within.alike.closed),
       writing_on l.invariant.3 _ _ _ (at_entry (goal.at.loop-left-preserved c).Joined-not-is_within) put.value put.after,
-      sym (rest_on a.below _ _ q j.if-below-e.false) ∙ l.invariant.4,
+      sym (rest_on a.below _ _ q c.if-below-e.false) ∙ l.invariant.4,
       (is_known (goal.at.loop-left-preserved c).Joined-not-is_within).0,
     )
 

@@ -1,20 +1,13 @@
 -- `merge::pass_unlisted` meets its contract. The loop's invariant: putting what is left of the gap does the whole of it, and codes
 -- remembered as alike are closed alike. Assumes nothing.
-use mathlib.Core.Path.{◌≡◌, refl, sym, ◌∙◌}
-use mathlib.Core.Logic.{⊎_elim}
-use mathlib.Core.List.{◌++◌}
+use mathlib.Core.Path.{◌≡◌}
 use Prim.Native.Nat.{◌+◌, ◌-◌, ◌*◌, ◌≤◌, min}
-use native.Mathlib.Omega.{arith}
-use borrow.Author.Rules.{rules}
-use borrow.Author.Tests.{not-false}
 use lib.ListN.{length}
 use Rattle.book_words.specs.Layout.{entry_words, most_words, entries_from}
-use Rattle.book_words.proofs.Rows.{rows_none}
-use Rattle.merge_rule.specs.Passes.{gap_below, rest_from, unlisted_as}
+use Rattle.merge_rule.specs.Passes.{gap_below, rest_from}
 use Rattle.closing.specs.Closings.{closes_by}
-use Rattle.closing.proofs.ClosingLaws.{ClosedAlike, anyway_alike, range_alike, range_closed}
-use Rattle.book_words.proofs.Stores.{Writing, writing_all, writing_on, writing_counted, writing_end}
-use Rattle.merge.proofs.PassLaws.{next_row, gap_on, gap_stops, gap_none, rest_on, rest_stops, rest_none, at_most_two}
+use Rattle.closing.proofs.ClosingLaws.{ClosedAlike}
+use Rattle.book_words.proofs.Stores.{Writing}
 use Rattle.merge.proofs.pass_unlisted.Given as goal
 
 abbrev pub invariant-loop-left : goal.invariant-loop-left

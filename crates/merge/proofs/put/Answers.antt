@@ -1,7 +1,6 @@
 -- `merge::put` meets its contract: with room the three words are there, and without it not all of them. Assumes nothing.
 use mathlib.Core.Path.{sym, ◌∙◌}
 use native.Mathlib.Omega.{arith}
-use borrow.Author.Rules.{rules}
 use lib.ListN.{length-set}
 use Rattle.book_words.proofs.Places.{one_stored, put_there, not_put, one_put}
 use Rattle.merge.proofs.put.Goals as goal

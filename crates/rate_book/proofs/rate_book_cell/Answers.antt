@@ -1,7 +1,5 @@
 -- rate_book_cell meets its contract. Assumes nothing.
 use mathlib.Core.Path.{ap, ◌∙◌}
-use Prim.Native.Nat.{◌-◌}
-use borrow.Author.Rules.{rules}
 use Rattle.answers.specs.Answers.{cell_of}
 use Rattle.rate_book.proofs.rate_book_cell.Goals as goal
 

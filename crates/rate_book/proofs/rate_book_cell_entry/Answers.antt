@@ -4,7 +4,6 @@ use mathlib.Core.List.{List}
 use Prim.Native.Nat.{ℕ, ◌-◌}
 use native.Mathlib.Omega.{arith}
 use lib.ListN.{length, get_or}
-use borrow.Author.Rules.{rules}
 use Rattle.code_cell.specs.Cell.{entry_keys}
 use Rattle.cell_keys.proofs.Ones.{rest_within}
 use Rattle.answers.specs.Answers.{entry_answer}

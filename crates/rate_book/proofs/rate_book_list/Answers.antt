@@ -1,7 +1,6 @@
 -- rate_book_list meets its contract. Assumes nothing.
 use mathlib.Core.Path.{ap, ◌∙◌}
 use Rattle.answers.specs.Answers.{list_of}
-use borrow.Author.Rules.{rules}
 use Rattle.rate_book.proofs.rate_book_list.Goals as goal
 
 pub returns : goal.returns

@@ -1,7 +1,6 @@
 -- rate_book_words meets its contract. Assumes nothing.
 use native.Mathlib.Omega.{arith}
 use Rattle.rate_book.specs.Exported.{words_for}
-use borrow.Author.Rules.{rules}
 use Rattle.rate_book.proofs.rate_book_words.Goals as goal
 
 pub returns-then-most-entries : goal.returns-then-most-entries

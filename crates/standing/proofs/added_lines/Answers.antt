@@ -1,7 +1,5 @@
 -- added_lines meets its contract: no line, or one. Assumes nothing.
 use mathlib.Core.Path.{sym, ◌∙◌}
-use borrow.Author.Rules.{rules}
-use borrow.Author.Tests.{not-true, not-false}
 use Rattle.standing.proofs.Turns.{none_added, one_added}
 use Rattle.standing.proofs.added_lines.Goals as goal
 

@@ -1,7 +1,5 @@
 -- added_size meets its contract: no line, or one. Assumes nothing.
 use mathlib.Core.Path.{sym, ◌∙◌}
-use borrow.Author.Rules.{rules}
-use borrow.Author.Tests.{not-true, not-false}
 use Rattle.standing.proofs.Turns.{none_added, size_added}
 use Rattle.standing.proofs.added_size.Goals as goal
 

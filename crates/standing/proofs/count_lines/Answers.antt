@@ -1,13 +1,12 @@
 -- count_lines meets its contract. The loop's invariant: what is counted and what the entries left add come to all lines.
 -- The measure is the number of entries left. Assumes nothing.
 use mathlib.Core.Path.{◌≡◌, ap}
-use Prim.Native.Nat.{◌+◌, ◌-◌, ◌*◌, ◌≤◌}
+use Prim.Native.Nat.{◌+◌, ◌-◌}
 use native.Mathlib.Omega.{arith}
-use borrow.Author.Rules.{rules}
 use lib.ListN.{length}
-use Rattle.book_words.specs.Layout.{most_words, entry_words, entries_from}
+use Rattle.book_words.specs.Layout.{entry_words, entries_from}
 use Rattle.book.proofs.Headers.{count_room}
-use Rattle.standing.specs.Pass.{passed, lines_by}
+use Rattle.standing.specs.Pass.{passed}
 use Rattle.standing.proofs.Turns.{count_row, none_left, starts, lines_few}
 use Rattle.standing.proofs.count_lines.Goals.{After-added_lines-lines}
 use Rattle.standing.proofs.count_lines.Goals as goal
@@ -33,8 +32,7 @@ loop-left-init c =
 
 pub overflow_add-lines : goal.overflow_add-lines
 overflow_add-lines c =
-    let p = c in
-    omega (arith, at_turn (goal.at.overflow_add-lines c).After-added_lines-lines, (lines_few p.args.words.now p.args.day).0)
+    omega (arith, at_turn (goal.at.overflow_add-lines c).After-added_lines-lines, (lines_few c.args.words.now c.args.day).0)
 
 pub loop-left-preserved : goal.loop-left-preserved
 loop-left-preserved c = (omega arith, omega (arith, at_turn (goal.at.loop-left-preserved c).After-added_lines-lines))

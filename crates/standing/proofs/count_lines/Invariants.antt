@@ -1,14 +1,10 @@
 -- count_lines meets its contract. The loop's invariant: what is counted and what the entries left add come to all lines.
 -- The measure is the number of entries left. Assumes nothing.
-use mathlib.Core.Path.{◌≡◌, ap}
-use Prim.Native.Nat.{◌+◌, ◌-◌, ◌*◌, ◌≤◌}
-use native.Mathlib.Omega.{arith}
-use borrow.Author.Rules.{rules}
+use mathlib.Core.Path.{◌≡◌}
+use Prim.Native.Nat.{◌+◌, ◌*◌, ◌≤◌}
 use lib.ListN.{length}
 use Rattle.book_words.specs.Layout.{most_words, entry_words, entries_from}
-use Rattle.book.proofs.Headers.{count_room}
 use Rattle.standing.specs.Pass.{passed, lines_by}
-use Rattle.standing.proofs.Turns.{count_row, none_left, starts, lines_few}
 use Rattle.standing.proofs.count_lines.Given as goal
 
 abbrev pub invariant-loop-left : goal.invariant-loop-left

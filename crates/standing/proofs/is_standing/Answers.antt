@@ -2,7 +2,6 @@
 -- Assumes nothing.
 use mathlib.Core.Path.{ap, sym, ◌∙◌}
 use mathlib.Core.Bool.{not}
-use borrow.Author.Rules.{rules}
 use Rattle.book_words.proofs.Rows.{rows_none}
 use Rattle.dial_code.proofs.Tests.{positive}
 use Rattle.standing.proofs.Turns.{after_day, closed, unless_replaced, none_next, other_next, same_next, row}
@@ -22,15 +21,13 @@ returns-then-left-eq0 c =
 
 pub returns-then-e-next : goal.returns-then-e-next
 returns-then-e-next c =
-    let d = c in
     sym
-    (unless_replaced _ _ _ d.if-day-e.false d.if-e-eq0.false
-    ∙ ap not (other_next _ _ _ _ _ (row _ _ _ (positive d.if-left-eq0.false) d.entry_at-next.ensures) c.if-e-next.true))
+    (unless_replaced _ _ _ c.if-day-e.false c.if-e-eq0.false
+    ∙ ap not (other_next _ _ _ _ _ (row _ _ _ (positive c.if-left-eq0.false) c.entry_at-next.ensures) c.if-e-next.true))
 
 pub returns : goal.returns
 returns c =
-    let d = c in
-    let q = row _ _ _ (positive d.if-left-eq0.false) d.entry_at-next.ensures in
+    let q = row _ _ _ (positive c.if-left-eq0.false) c.entry_at-next.ensures in
     sym
-    (unless_replaced _ _ _ d.if-day-e.false d.if-e-eq0.false
-    ∙ same_next _ _ _ d.entry_at-next.result _ q c.if-e-next.false)
+    (unless_replaced _ _ _ c.if-day-e.false c.if-e-eq0.false
+    ∙ same_next _ _ _ c.entry_at-next.result _ q c.if-e-next.false)

@@ -1,5 +1,4 @@
 -- line_of meets its contract. Assumes nothing.
-use borrow.Author.Rules.{rules}
 use Rattle.standing.proofs.Turns.{line_is}
 use Rattle.standing.proofs.line_of.Goals as goal
 

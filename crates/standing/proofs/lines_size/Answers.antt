@@ -2,16 +2,15 @@
 -- The measure is the number of entries left. Assumes nothing.
 use mathlib.Core.Path.{◌≡◌, ap}
 use mathlib.Core.List.{List}
-use Prim.Native.Nat.{◌+◌, ◌-◌, ◌*◌, ◌≤◌}
+use Prim.Native.Nat.{◌+◌, ◌-◌}
 use native.Mathlib.Omega.{arith}
-use borrow.Author.Rules.{rules}
 use lib.ListN.{length}
 use Rattle.line_writing.specs.LineLayout.{encode_lines}
 use Rattle.notice_line.specs.declared.Line.{Line}
 use Rattle.line_writing.proofs.LineLayoutLaws.{lines_nil}
-use Rattle.book_words.specs.Layout.{most_words, entry_words, entries_from}
+use Rattle.book_words.specs.Layout.{entry_words, entries_from}
 use Rattle.book.proofs.Headers.{count_room}
-use Rattle.standing.specs.Pass.{passed, lines_by}
+use Rattle.standing.specs.Pass.{passed}
 use Rattle.standing.proofs.Turns.{length_row, none_left, starts, lines_few}
 use Rattle.standing.proofs.lines_size.Goals.{After-added_size-size}
 use Rattle.standing.proofs.lines_size.Goals as goal
@@ -37,8 +36,7 @@ loop-left-init c =
 
 pub overflow_add-size : goal.overflow_add-size
 overflow_add-size c =
-    let p = c in
-    let m = lines_few p.args.words.now p.args.day in
+    let m = lines_few c.args.words.now c.args.day in
     omega (arith, at_turn (goal.at.overflow_add-size c).After-added_size-size, m.0, m.1)
 
 pub loop-left-preserved : goal.loop-left-preserved

@@ -1,18 +1,11 @@
 -- lines_size meets its contract. The loop's invariant: what is added up and what the entries left add come to the bytes of all.
 -- The measure is the number of entries left. Assumes nothing.
-use mathlib.Core.Path.{◌≡◌, ap}
-use mathlib.Core.List.{List}
-use Prim.Native.Nat.{◌+◌, ◌-◌, ◌*◌, ◌≤◌}
-use native.Mathlib.Omega.{arith}
-use borrow.Author.Rules.{rules}
+use mathlib.Core.Path.{◌≡◌}
+use Prim.Native.Nat.{◌+◌, ◌*◌, ◌≤◌}
 use lib.ListN.{length}
 use Rattle.line_writing.specs.LineLayout.{encode_lines}
-use Rattle.notice_line.specs.declared.Line.{Line}
-use Rattle.line_writing.proofs.LineLayoutLaws.{lines_nil}
 use Rattle.book_words.specs.Layout.{most_words, entry_words, entries_from}
-use Rattle.book.proofs.Headers.{count_room}
 use Rattle.standing.specs.Pass.{passed, lines_by}
-use Rattle.standing.proofs.Turns.{length_row, none_left, starts, lines_few}
 use Rattle.standing.proofs.lines_size.Given as goal
 
 abbrev pub invariant-loop-left : goal.invariant-loop-left

@@ -2,7 +2,6 @@
 -- a checked notice comes to. Assumes nothing.
 use mathlib.Core.Path.{sym, ◌∙◌}
 use native.Mathlib.Omega.{arith}
-use borrow.Author.Rules.{rules}
 use Rattle.book.proofs.Usable.{usable_sound}
 use Rattle.update.proofs.Answering.{refuses, no_old, no_new, refuses_notice}
 use Rattle.slice_laws.proofs.Clauses.{both}
@@ -18,16 +17,15 @@ returns-then-new-lt-HEADER_WORDS c =
     let e = sym c.book_refusal-unusable.ensures ∙ c.if-unusable-ne0.false in both (refuses _ _ _ _ c.refused-then-new-lt-HEADER_WORDS.ensures (no_new _ _ _ e c.if-new-lt-HEADER_WORDS.true) (λ z. omega arith))
 
 pub apply_checked-requires : goal.apply_checked-requires
-apply_checked-requires c =
-    let d = c in (
-      usable_sound _ (sym d.book_refusal-unusable.ensures ∙ d.if-unusable-ne0.false),
-      c.if-new-lt-HEADER_WORDS.false,
-      sym c.check_notice.ensures ∙ c.in-Notice.is,
-    )
+apply_checked-requires c = (
+  usable_sound _ (sym c.book_refusal-unusable.ensures ∙ c.if-unusable-ne0.false),
+  c.if-new-lt-HEADER_WORDS.false,
+  sym c.check_notice.ensures ∙ c.in-Notice.is,
+)
 
 pub returns-in-Refused : goal.returns-in-Refused
 returns-in-Refused c =
-    let d = c in both (refuses_notice _ _ _ _ c.refused-in-Refused.ensures (sym d.book_refusal-unusable.ensures ∙ d.if-unusable-ne0.false)
+    both (refuses_notice _ _ _ _ c.refused-in-Refused.ensures (sym c.book_refusal-unusable.ensures ∙ c.if-unusable-ne0.false)
     c.if-new-lt-HEADER_WORDS.false
     (sym c.check_notice.ensures ∙ c.in-Refused.is))
 

@@ -2,8 +2,6 @@
 use mathlib.Core.Path.{◌≡◌, ap, ap₂, ◌∙◌}
 use Prim.Native.Nat.{◌≤◌}
 use native.Mathlib.Omega.{arith}
-use borrow.Author.Rules.{rules}
-use borrow.Author.Tests.{not-true, not-false}
 use Rattle.book_words.specs.Layout.{period_of, received_of, latest_of}
 use Rattle.book_words.specs.declared.Header.{Header}
 use Rattle.book.proofs.Headers.{sound_book}
@@ -45,31 +43,25 @@ shape_of-new c = c.fill-done.auto.new
 
 pub returns-then-not-has_room : goal.returns-then-not-has_room
 returns-then-not-has_room c =
-    let h = c in
-    let s = c in
-    let a = s.args in
-    let p = s.requires in both (refuses_full a.old.now a.notice.now a.m a.new.now p.0 p.1 p.2 (in_time (goal.at.returns-then-not-has_room c).Else-m-header) (planned (goal.at.returns-then-not-has_room c).After-plan_of-plan)
-    h.marks_for-marks.ensures h.has_room.ensures c.refused-then-not-has_room.ensures
+    let a = c.args in
+    let p = c.requires in both (refuses_full a.old.now a.notice.now a.m a.new.now p.0 p.1 p.2 (in_time (goal.at.returns-then-not-has_room c).Else-m-header) (planned (goal.at.returns-then-not-has_room c).After-plan_of-plan)
+    c.marks_for-marks.ensures c.has_room.ensures c.refused-then-not-has_room.ensures
     (c.if-not-has_room.true))
 
 pub fill-done-requires : goal.fill-done-requires
 fill-done-requires c =
-    let h = c in
-    let s = c in
-    let a = s.args in
-    let p = s.requires in (
+    let a = c.args in
+    let p = c.requires in (
       (ready _ _ p.2).lines_most,
       fill_room a.old.now a.notice.now a.m a.new.now p.0 p.1 p.2 (in_time (goal.at.fill-done-requires c).Else-m-header) (planned (goal.at.fill-done-requires c).After-plan_of-plan)
-          h.marks_for-marks.ensures h.has_room.ensures
+          c.marks_for-marks.ensures c.has_room.ensures
           (c.if-not-has_room.false),
     )
 
 pub returns : goal.returns
 returns c =
-    let h = c in
-    let s = c in
-    let a = s.args in
-    let p = s.requires in
+    let a = c.args in
+    let p = c.requires in
     let f = c.fill-done.ensures in both (accepts a.old.now a.notice.now a.m a.new.now p.0 p.1 p.2 (in_time (goal.at.returns c).Else-m-header) (planned (goal.at.returns c).After-plan_of-plan)
-    h.marks_for-marks.ensures h.has_room.ensures
+    c.marks_for-marks.ensures c.has_room.ensures
     (c.if-not-has_room.false) f.count_value.0 f.count_value.1 f.after)

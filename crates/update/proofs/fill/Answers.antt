@@ -2,9 +2,8 @@
 use mathlib.Core.Path.{◌≡◌, ap}
 use Prim.Native.Nat.{◌+◌, ◌*◌, ◌≤◌}
 use native.Mathlib.Omega.{arith}
-use borrow.Author.Rules.{rules}
 use lib.ListN.{length}
-use Rattle.book_words.specs.Layout.{header_words, entry_words, header, latest_of}
+use Rattle.book_words.specs.Layout.{header_words, entry_words, latest_of}
 use Rattle.book_words.specs.declared.Header.{Header}
 use Rattle.book_words.proofs.NewBook.{book_made}
 use Rattle.effect.specs.Lines.{found_in, latest_by}
@@ -21,9 +20,8 @@ merged : (c : After-merge-done) →
     (c.merge-done.result.count ≡ length (merged_by a.old.now a.plan a.marks.now ls))
     × (c.merge-done.result.latest ≡ latest_by a.plan (found_in a.old.now) (latest_of a.old.now) ls)
 merged c =
-    let s = c in
-    let a = s.args in
-    answered a.old.now a.plan a.marks.now a.notice.now a.m.start a.m.lines s.requires.0 c.merge-done.ensures.value
+    let a = c.args in
+    answered a.old.now a.plan a.marks.now a.notice.now a.m.start a.m.lines c.requires.0 c.merge-done.ensures.value
 
 -- the entries have room
 room : (c : After-merge-done) →
@@ -32,26 +30,22 @@ room c = omega (arith, (merged c).0, c.requires.1)
 
 pub overflow_mul-done : goal.overflow_mul-done
 overflow_mul-done c =
-    let d = c in
-    omega (arith, room (goal.at.overflow_mul-done c).After-merge-done, d)
+    omega (arith, room (goal.at.overflow_mul-done c).After-merge-done, c)
 
 pub overflow_add-done : goal.overflow_add-done
 overflow_add-done c =
-    let d = c in
-    omega (arith, room (goal.at.overflow_add-done c).After-merge-done, d)
+    omega (arith, room (goal.at.overflow_add-done c).After-merge-done, c)
 
 pub returns : goal.returns
 returns c =
-    let d = c in
-    let s = c in
-    let a = s.args in
+    let a = c.args in
     let ls = lines_at a.m.lines a.notice.now a.m.start in
     let m = merged (goal.at.returns c).After-merge-done in
     let h = c.write_header.ensures in
     let p : c.header_of-before.result.period ≡ _ = ap (λ (x : Header). x.period) c.header_of-before.ensures in record {
       count_value = m;
-      after = book_made a.new.now (merged_by a.old.now a.plan a.marks.now ls) _ _ _ s.requires.1 m.0
-          (written_all a.old.now a.plan a.marks.now a.notice.now a.m.start a.m.lines s.requires.0 a.new.now s.requires.1 d.merge-done.ensures.after)
+      after = book_made a.new.now (merged_by a.old.now a.plan a.marks.now ls) _ _ _ c.requires.1 m.0
+          (written_all a.old.now a.plan a.marks.now a.notice.now a.m.start a.m.lines c.requires.0 a.new.now c.requires.1 c.merge-done.ensures.after)
           c.clear.ensures
           (rw (p, m.1) at h);
     }

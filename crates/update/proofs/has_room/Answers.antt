@@ -1,7 +1,6 @@
 -- `update::has_room` meets its contract: room for the most entries is room for those that there are. Assumes nothing.
 use mathlib.Core.Path.{ap₂, sym}
 use native.Mathlib.Omega.{arith}
-use borrow.Author.Rules.{rules}
 use borrow.Author.Tests.{le-leb}
 use lib.Dec.{leb}
 use lib.ListN.{length}
@@ -19,13 +18,11 @@ overflow_mul-headed_count c = omega (arith, (count_room c.args.old.now).1, c.hea
 
 pub overflow_add-headed_count : goal.overflow_add-headed_count
 overflow_add-headed_count c =
-    let s = c in
-    omega (arith, (count_room s.args.old.now).1, c.headed_count.ensures, s.requires)
+    omega (arith, (count_room c.args.old.now).1, c.headed_count.ensures, c.requires)
 
 pub returns-then-headed_count-m : goal.returns-then-headed_count-m
 returns-then-headed_count-m c =
-    let s = c in
-    let a = s.args in
+    let a = c.args in
     let ls = lines_at a.m.lines a.notice.now a.m.start in
     let count = length (merged_by a.old.now a.plan a.marks.now ls) in
     let most = merged_most a.old.now a.plan a.marks.now ls in
@@ -36,8 +33,7 @@ returns-then-headed_count-m c =
 
 pub returns : goal.returns
 returns c =
-    let s = c in
-    let a = s.args in
+    let a = c.args in
     let m = c.merge-counted.ensures in
-    let k = answered a.old.now a.plan a.marks.now a.notice.now a.m.start a.m.lines s.requires m.value in
+    let k = answered a.old.now a.plan a.marks.now a.notice.now a.m.start a.m.lines c.requires m.value in
     ap₂ leb k.0 c.entries_held-most.ensures

@@ -1,5 +1,4 @@
 -- `update::plan_of` meets its contract. Assumes nothing.
-use borrow.Author.Rules.{rules}
 use Rattle.update.proofs.Planning.{replaces, keeps}
 use Rattle.update.proofs.plan_of.Goals as goal
 

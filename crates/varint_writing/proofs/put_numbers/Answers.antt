@@ -13,18 +13,15 @@ loop-done-init c = (c.requires.0, refl, refl, refl)
 
 pub put_number-end-requires : goal.put_number-end-requires
 put_number-end-requires c =
-    let at-loop = c.before.before.before in
-    let l = at-loop.loop-done in
-    let start = at-loop.before.before.before in
-    let ns = start.args.numbers.now in
+    let l = c.loop-done in
+    let ns = c.args.numbers.now in
     let p = turn_first ns l.done (omega arith) l.invariant.0 in
-    (p.0, omega (arith, start.requires.1, turn_length ns l.done (omega arith)))
+    (p.0, omega (arith, c.requires.1, turn_length ns l.done (omega arith)))
 
 pub loop-done-preserved : goal.loop-done-preserved
 loop-done-preserved c =
-    let at-loop = c in
-    let l = at-loop.loop-done in
-    let ns = at-loop.args.numbers.now in
+    let l = c.loop-done in
+    let ns = c.args.numbers.now in
     let h : l.done < length ns = omega arith in
     let p = c.put_number-end.ensures in
     let q = stores ns l.done h l.out l.end p.after p.value l.invariant.3 in (

@@ -36,12 +36,10 @@ returns-then-not-are_encodable c = both (all_too_large _ _ _ (sym c.are_encodabl
 
 pub returns-then-not-fits : goal.returns-then-not-fits
 returns-then-not-fits c =
-    let s = c in
-    let first = s in
-    let a = first.args in
+    let a = c.args in
     let e = encodes (goal.at.returns-then-not-fits c).Else-not-are_encodable in
-    let l : length a.out.now < a.at + s.numbers_size.result =
-    leb-false _ _ (sym c.fits.ensures ∙ c.if-not-fits.true) in both (all_no_room _ _ _ e (omega (arith, s.numbers_size.ensures ∙ all_sized a.numbers.now e)))
+    let l : length a.out.now < a.at + c.numbers_size.result =
+    leb-false _ _ (sym c.fits.ensures ∙ c.if-not-fits.true) in both (all_no_room _ _ _ e (omega (arith, c.numbers_size.ensures ∙ all_sized a.numbers.now e)))
 
 pub put_numbers-requires : goal.put_numbers-requires
 put_numbers-requires c = (encodes (goal.at.put_numbers-requires c).Else-not-are_encodable, room_for (goal.at.put_numbers-requires c).Joined-not-is_ample)
@@ -49,4 +47,4 @@ put_numbers-requires c = (encodes (goal.at.put_numbers-requires c).Else-not-are_
 pub returns : goal.returns
 returns c =
     let p = c.put_numbers in
-    let j = c in both (all_written _ _ _ (encodes (goal.at.returns c).Else-not-are_encodable) (room_for (goal.at.returns c).Joined-not-is_ample) p.ensures.value p.ensures.after)
+    both (all_written _ _ _ (encodes (goal.at.returns c).Else-not-are_encodable) (room_for (goal.at.returns c).Joined-not-is_ample) p.ensures.value p.ensures.after)
