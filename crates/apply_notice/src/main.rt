@@ -34,10 +34,7 @@ fn fill<R: Read + Drop>(mut input: R, bytes: &mut [u8]) -> io::Result<usize>
     ensures { IfOk result (λ n. n ≤ length bytes.new) }
 {
     let mut filled = 0;
-    for _ in 0..u64::MAX {
-        if filled == bytes.len() {
-            break;
-        }
+    while filled < bytes.len() {
         let read = input.read(&mut bytes[filled..])?;
         if read == 0 {
             break;

@@ -33,7 +33,7 @@ fn key_of(digits: u64, value: u64) -> u64
 // How far the key of the next code is: the weight of the last place, less 9 times that of each place that goes from 9 to 0.
 fn key_step(digits: u64, value: u64, weight: u64) -> u64
     requires run { Run digits value 2 }
-    requires weight_value { weight ≡ 11 ^ (most_digits - digits) }
+    requires weight_is { weight ≡ 11 ^ (most_digits - digits) }
     ensures { key_at digits value + result ≡ key_at digits (value + 1) }
 {
     let mut v = value;
@@ -50,8 +50,8 @@ fn key_step(digits: u64, value: u64, weight: u64) -> u64
 // Writes the keys of a range's codes from a place on, given the first.
 fn fill(digits: u64, first: u64, count: u64, start: u64, keys: &mut [u64], at: usize)
     requires run { Run digits first count }
-    requires start_value { start ≡ key_at digits first }
-    requires count_in_bounds { at + count ≤ length keys.old }
+    requires start_is { start ≡ key_at digits first }
+    requires room { at + count ≤ length keys.old }
     ensures { keys.new ≡ sets keys.old at (keys_from digits first count) }
 {
     let weight = dial_code::weight_of(digits);
@@ -112,7 +112,7 @@ fn merge(keys: &mut [u64], old: usize, together: usize, digits: u64, first: u64,
     requires run { Run digits first count }
     requires rising { Rising (take old keys.old) }
     requires in_bounds { (old ≤ length keys.old) × (together ≤ length keys.old) }
-    requires together_value { together ≡ length (insert_all (keys_from digits first count) (take old keys.old)) }
+    requires together_is { together ≡ length (insert_all (keys_from digits first count) (take old keys.old)) }
     ensures { keys.new ≡ sets keys.old 0 (insert_all (keys_from digits first count) (take old keys.old)) }
 {
     let weight = dial_code::weight_of(digits);
@@ -328,7 +328,7 @@ pub fn entry_keys<'a>(
     keys: &mut [u64],
     answer: &mut [u64; 2],
 ) -> &'a [u8]
-    ensures result_value { result.now ≡ rest_after (entry_keys country.now cell.now (length keys.old)) cell.now }
+    ensures rest { result.now ≡ rest_after (entry_keys country.now cell.now (length keys.old)) cell.now }
     ensures after { keys.new ≡ sets keys.old 0 (keys_of (entry_keys country.now cell.now (length keys.old))) }
     ensures answer_after { answer.new ≡ sets answer.old 0 (count_words (entry_keys country.now cell.now (length keys.old))) }
 {

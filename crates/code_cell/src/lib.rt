@@ -77,7 +77,7 @@ fn is_same(a: CodeRange, b: CodeRange) -> bool
 // The bound with a range's codes, after one of the entry before.
 fn added(room: usize, bound: u64, before: CodeRange, range: CodeRange) -> u64
     requires writable { Writable range }
-    requires most_codes_bound { room + most_codes < 2 ^ 64 }
+    requires room_fits { room + most_codes < 2 ^ 64 }
     ensures { result ≡ addedTo room bound before range }
 {
     if (room as u64) < bound {

@@ -8,26 +8,26 @@ use lib.Dec.{ltb}
 use lib.ListN.{length, take}
 use Rattle.dial_code.specs.Digits.{digits, value, every, is_digit, precedes}
 use Rattle.dial_code.specs.Key.{key, keys_end, digits_of_key, prefix_key}
-use Rattle.dial_code.proofs.DigitLaws as digit-laws
+use Rattle.dial_code.proofs.DigitLaws as digit_laws
 use Rattle.dial_code.proofs.KeyLaws as key_laws
 
 -- A digit string, and its count of digits with its value, determine each other.
 
 -- A digit string comes back from its length and its value.
 pub digits_value : (ds : List ℕ) → every is_digit ds ≡ true → digits (length ds) (value ds) ≡ ds
-digits_value = digit-laws.digits_value
+digits_value = digit_laws.digits_value
 
 -- A value that so many digits can write comes back from its digits.
 pub value_digits : (k v : ℕ) → v < 10 ^ k → value (digits k v) ≡ v
-value_digits = digit-laws.value_digits
+value_digits = digit_laws.value_digits
 
 -- A value written with a count of digits has that many.
 pub length_digits : (k v : ℕ) → length (digits k v) ≡ k
-length_digits = digit-laws.length_digits
+length_digits = digit_laws.length_digits
 
 -- They are digits.
 pub digits_are : (k v : ℕ) → every is_digit (digits k v) ≡ true
-digits_are = digit-laws.digits_are
+digits_are = digit_laws.digits_are
 
 -- Keys.
 

@@ -20,7 +20,7 @@ use Rattle.dial_code.proofs.KeyLaws.{digits_back}
 use Rattle.dial_code.proofs.CountedKeys.{large, sent}
 use Rattle.country_code.proofs.CountryLaws.{country_of_key_law}
 use Rattle.dial_code.proofs.SentKeys.{code_test}
-use Rattle.allowed_code.proofs.CodeLaws.{code_test as key-opens}
+use Rattle.allowed_code.proofs.CodeLaws.{code_test as key_opens}
 use Rattle.allowed_code.proofs.SentCodes.{sent_test}
 use Rattle.line_code.specs.CodeRule.{is_country, code_field}
 use Rattle.varint.proofs.Links.{yes_case, no_case}
@@ -28,7 +28,7 @@ use Rattle.varint.proofs.Links.{yes_case, no_case}
 -- A digit string is an allowed code exactly where its key is the key of one.
 pub key_test : (ds : List ℕ) → every is_digit ds ≡ true → length ds ≤ 15 → is_code_key (key ds) ≡ is_code ds
 key_test ds e h =
-    key-opens (key ds)
+    key_opens (key ds)
     ∙ ap (λ (es : List ℕ). eqb (key es) (key ds) && is_code es) (digits_back ds e h)
     ∙ and_left_true (is_code ds) (eq-eqb (key ds) (key ds) refl)
 

@@ -61,8 +61,8 @@ fn write_at(
 
 // Whether so many bytes hold the list. Its lines' sizes are added up only where lines of the largest size would not fit.
 fn is_held(words: &[u64], day: Day, lines: usize, room: usize) -> bool
-    requires words_value { (sound words.now ≡ true) × (is_received_day day ≡ true) }
-    requires lines_value { (lines ≡ length (standing_lines (entries_of words.now) day.0)) × (0 < lines) }
+    requires sound_words { (sound words.now ≡ true) × (is_received_day day ≡ true) }
+    requires lines_given { (lines ≡ length (standing_lines (entries_of words.now) day.0)) × (0 < lines) }
     ensures { result ≡ leb (length (list_of words.now day)) room }
 {
     let header = notice_writing::header_size(notice_header::FULL, day.0, 0, lines as u64);
@@ -74,8 +74,8 @@ fn is_held(words: &[u64], day: Day, lines: usize, room: usize) -> bool
 
 // Writes the lines of the list from a place of the lent bytes on, and gives the place after them.
 fn write_lines(words: &[u64], day: u64, out: &mut [u8], from: usize) -> usize
-    requires words_value { sound words.now ≡ true }
-    requires day_in_bounds { from + length (encode_lines (standing_lines (entries_of words.now) day)) ≤ length out.old }
+    requires sound_words { sound words.now ≡ true }
+    requires room { from + length (encode_lines (standing_lines (entries_of words.now) day)) ≤ length out.old }
     ensures value { result ≡ from + length (encode_lines (standing_lines (entries_of words.now) day)) }
     ensures after { out.new ≡ sets out.old from
         (encode_lines (standing_lines (entries_of words.now) day)) }
@@ -94,9 +94,9 @@ fn write_lines(words: &[u64], day: u64, out: &mut [u8], from: usize) -> usize
 
 // Writes a list that is not refused, and gives its length.
 fn write_all(words: &[u64], day: Day, lines: usize, out: &mut [u8]) -> usize
-    requires words_value { (sound words.now ≡ true) × (is_received_day day ≡ true) }
-    requires lines_value { (lines ≡ length (standing_lines (entries_of words.now) day.0)) × (0 < lines) }
-    requires day_in_bounds { length (list_of words.now day) ≤ length out.old }
+    requires sound_words { (sound words.now ≡ true) × (is_received_day day ≡ true) }
+    requires lines_given { (lines ≡ length (standing_lines (entries_of words.now) day.0)) × (0 < lines) }
+    requires room { length (list_of words.now day) ≤ length out.old }
     ensures value { result ≡ length (list_of words.now day) }
     ensures after { out.new ≡ sets out.old 0 (list_of words.now day) }
 {

@@ -30,8 +30,8 @@ fn country_count(country: u64) -> u64
 
 // The fields before the lines; `country` is the value of a replacement's country, and is not sent for another kind.
 fn header_fields(kind: u64, received: u64, country: u64, lines: u64) -> Fields
-    ensures count_in_bounds { result.count ≤ length result.numbers }
-    ensures numbers_value { take result.count result.numbers ≡ header_fields kind received country lines }
+    ensures within { result.count ≤ length result.numbers }
+    ensures fields { take result.count result.numbers ≡ header_fields kind received country lines }
 {
     if kind == notice_header::REPLACEMENT {
         let digits = country_count(country);

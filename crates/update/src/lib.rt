@@ -113,7 +113,7 @@ fn has_room(
     len: usize,
 ) -> bool
     requires { m.lines ≤ most_lines }
-    ensures { result ≡ leb (length (merged_by old.now plan marks.now (lines_at m.lines notice.entry.now m.start))) (held len) }
+    ensures { result ≡ leb (length (merged_by old.now plan marks.now (lines_at m.lines notice.now m.start))) (held len) }
 {
     let most = book_words::entries_held(len);
     if (book::headed_count(old) as u64) * 2 + m.lines <= most as u64 {
@@ -134,7 +134,7 @@ fn fill(
     new: &mut [u64],
 ) -> Merged
     requires { (m.lines ≤ most_lines) × (header_words + length (merged_by old.now plan marks.now (lines_at m.lines notice.now m.start)) * entry_words ≤ length new.old) }
-    ensures count_value { (result.count ≡ length (merged_by old.now plan marks.now (lines_at m.lines notice.entry.now m.start))) × (result.latest ≡ latest_by plan (found_in old.now) (latest_of old.now) (lines_at m.lines notice.now m.start)) }
+    ensures value { (result.count ≡ length (merged_by old.now plan marks.now (lines_at m.lines notice.now m.start))) × (result.latest ≡ latest_by plan (found_in old.now) (latest_of old.now) (lines_at m.lines notice.now m.start)) }
     ensures after { new.new ≡ book_of (length new.old) (period_of old.now) m.received
         (latest_by plan (found_in old.now) (latest_of old.now) (lines_at m.lines notice.now m.start)) (merged_by old.now plan marks.now (lines_at m.lines notice.now m.start)) }
 {

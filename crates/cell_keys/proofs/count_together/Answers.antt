@@ -41,7 +41,7 @@ overflow_add-first-in-loop-p c = omega (arith, value_most _ _ _ c.loop-p.invaria
 pub key_step-key-requires : goal.key_step-key-requires
 key_step-key-requires c =
     let r = c.loop-p.invariant.run in
-    record { run = (r.0, r.1, omega arith, omega (arith, r.3, positive c.if-left-eq0.false)); weight_value = c.weight_of-weight.ensures }
+    record { run = (r.0, r.1, omega arith, omega (arith, r.3, positive c.if-left-eq0.false)); weight_is = c.weight_of-weight.ensures }
 
 pub overflow_sub-key : goal.overflow_sub-key
 overflow_sub-key c = omega (arith, step_back _ _ _ _ _ c.loop-p.invariant.keyed c.if-left-eq0.false c.key_step-key.ensures)

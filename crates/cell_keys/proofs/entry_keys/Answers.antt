@@ -34,7 +34,7 @@ returns-then-e-ne0 c =
     let b = one_bad (length a.keys.now) _ w (λ z. c.if-e-ne0.true (e.value ∙ z)) in
     let q = n ∙ b in
     record {
-      result_value = sym (ap (λ (x : CellKeys). rest_after x a.cell.now) q);
+      rest = sym (ap (λ (x : CellKeys). rest_after x a.cell.now) q);
       after = e.after ∙ ap (λ (x : CellKeys). sets a.keys.now 0 (keys_of x)) (sym n);
       answer_after =
           ap (λ (i : ℕ). sets a.answer.now 0 (i ∷ 0 ∷ [])) (e.value ∙ ap refusal_of b)
@@ -56,7 +56,7 @@ returns-in-Refused c =
     let a = c.args in
     let q = entry_refused a.country.now a.cell.now (length a.keys.now) _ (sym c.read_entry.ensures ∙ c.in-Refused.is) in
     record {
-      result_value = sym (ap (λ (x : CellKeys). rest_after x a.cell.now) q);
+      rest = sym (ap (λ (x : CellKeys). rest_after x a.cell.now) q);
       after = sym (ap (λ (x : CellKeys). sets a.keys.now 0 (keys_of x)) q);
       answer_after = sym (ap (λ (x : CellKeys). sets a.answer.now 0 (count_words x)) q);
     }
@@ -72,7 +72,7 @@ returns-else-e-ne0 c =
     let g = one_good (length a.keys.now) _ w (sym e.value ∙ z) in
     let q = n ∙ g in
     record {
-      result_value =
+      rest =
           rest a.cell.now _
           ∙ entry_rest a.country.now a.cell.now (length a.keys.now) _ _ t
           ∙ sym (ap (λ (x : CellKeys). rest_after x a.cell.now) q);

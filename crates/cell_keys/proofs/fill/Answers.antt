@@ -8,7 +8,7 @@ use Rattle.cell_keys.proofs.fill.Goals as goal
 pub loop-left-init : goal.loop-left-init
 loop-left-init c =
     let p = c.requires in
-    record { run = p.run; keyed = p.start_value; room = p.count_in_bounds; long = refl; fills = refl }
+    record { run = p.run; keyed = p.start_is; room = p.room; long = refl; fills = refl }
 
 pub offset_bounds-keys-i : goal.offset_bounds-keys-i
 offset_bounds-keys-i c = omega (arith, c.loop-left.invariant.room, c.loop-left.invariant.run.2)
@@ -19,7 +19,7 @@ bounds-keys-i c = omega (arith, c.loop-left.invariant.room)
 pub key_step-key-requires : goal.key_step-key-requires
 key_step-key-requires c =
     let i = c.loop-left.invariant in
-    record { run = (i.run.0, i.run.1, omega arith, omega (arith, i.run.3)); weight_value = c.weight_of-weight.ensures }
+    record { run = (i.run.0, i.run.1, omega arith, omega (arith, i.run.3)); weight_is = c.weight_of-weight.ensures }
 
 pub overflow_add-key : goal.overflow_add-key
 overflow_add-key c =

@@ -21,7 +21,7 @@ loop-p-init c =
       few = p.in_bounds.0;
       long = refl;
       rising = p.rising;
-      ends = p.together_value;
+      ends = p.together_is;
       room = p.in_bounds.1;
       merged = refl;
     }
@@ -46,7 +46,7 @@ overflow_add-first-in-loop-p c = omega (arith, value_most _ _ _ c.loop-p.invaria
 pub key_step-key-requires : goal.key_step-key-requires
 key_step-key-requires c =
     let r = c.loop-p.invariant.run in
-    record { run = (r.0, r.1, omega arith, omega (arith, r.3, positive c.if-left-eq0.false)); weight_value = c.weight_of-weight.ensures }
+    record { run = (r.0, r.1, omega arith, omega (arith, r.3, positive c.if-left-eq0.false)); weight_is = c.weight_of-weight.ensures }
 
 pub overflow_sub-key : goal.overflow_sub-key
 overflow_sub-key c = omega (arith, step_back _ _ _ _ _ c.loop-p.invariant.keyed c.if-left-eq0.false c.key_step-key.ensures)
@@ -64,8 +64,8 @@ fill-requires c =
     let i = c.loop-p.invariant in
     record {
       run = i.run;
-      start_value = c.key_of.ensures;
-      count_in_bounds = omega (arith, rest_fits _ _ _ _ _ _ _ _ _ _ i c.loop-p-test.false);
+      start_is = c.key_of.ensures;
+      room = omega (arith, rest_fits _ _ _ _ _ _ _ _ _ _ i c.loop-p-test.false);
     }
 
 pub returns : goal.returns

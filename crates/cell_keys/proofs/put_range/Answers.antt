@@ -16,8 +16,8 @@ fill-requires c =
     let a = c.args in
     record {
       run = run_of _ p.writable;
-      start_value = c.key_of-start.ensures;
-      count_in_bounds = omega (arith, p.in_bounds.1, ap length (first_put a.range a.old a.keys.now p.writable c.if-old-eq0.true), length_keys a.range.digits a.range.first a.range.count);
+      start_is = c.key_of-start.ensures;
+      room = omega (arith, p.in_bounds.1, ap length (first_put a.range a.old a.keys.now p.writable c.if-old-eq0.true), length_keys a.range.digits a.range.first a.range.count);
     }
 
 pub returns-then-old-eq0 : goal.returns-then-old-eq0
@@ -33,8 +33,8 @@ fill-requires-then-keys-old c =
     let a = c.args in
     record {
       run = run_of _ p.writable;
-      start_value = c.key_of-start.ensures;
-      count_in_bounds = omega (arith, p.in_bounds.1, above_length a.range a.old a.keys.now p.writable p.rising c.if-old-eq0.false p.in_bounds.0 _ c.key_of-start.ensures c.if-keys-old.true);
+      start_is = c.key_of-start.ensures;
+      room = omega (arith, p.in_bounds.1, above_length a.range a.old a.keys.now p.writable p.rising c.if-old-eq0.false p.in_bounds.0 _ c.key_of-start.ensures c.if-keys-old.true);
     }
 
 pub returns-then-keys-old : goal.returns-then-keys-old
@@ -54,7 +54,7 @@ merge-requires c =
       run = run_of _ p.writable;
       rising = p.rising;
       in_bounds = (p.in_bounds.0, omega (arith, e, ap length (put_so a.range a.old a.keys.now), p.in_bounds.1));
-      together_value = e;
+      together_is = e;
     }
 
 pub returns : goal.returns

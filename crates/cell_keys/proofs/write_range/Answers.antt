@@ -20,7 +20,7 @@ key_of-requires c = run_one _ _ _ (run_of _ c.requires)
 pub fill-requires : goal.fill-requires
 fill-requires c =
     let w = c.requires in
-    record { run = run_of _ w; start_value = c.key_of.ensures; count_in_bounds = omega (arith, c.if-keys-count.false) }
+    record { run = run_of _ w; start_is = c.key_of.ensures; room = omega (arith, c.if-keys-count.false) }
 
 pub returns : goal.returns
 returns c =

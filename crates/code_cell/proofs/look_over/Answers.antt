@@ -43,7 +43,7 @@ returns-in-Refused c =
     sym (sym l.invariant.1 ∙ look_refused _ _ _ _ _ (refused_at a.country.now a.cell.now l.at l.invariant.0 _ e).1)
 
 pub added-bound-requires : goal.added-bound-requires
-added-bound-requires c = record { writable = (within_at (goal.at.added-bound-requires c).In-Read).1; most_codes_bound = c.requires }
+added-bound-requires c = record { writable = (within_at (goal.at.added-bound-requires c).In-Read).1; room_fits = c.requires }
 
 pub overflow_add-at : goal.overflow_add-at
 overflow_add-at c = omega (arith, (within_at (goal.at.overflow_add-at c).In-Read).0)

@@ -26,9 +26,9 @@ sized : (c : After-header_size-header) →
     × (c.header_size-header.result + bytes ≡ length (list_of a.words.now a.day))
 sized c =
     let p = c.requires in
-    let f = few _ c.args.day.0 p.words_value.0 in
-    let z = list_size _ _ p.words_value.0 p.words_value.1 (omega (arith, p.lines_value.0, p.lines_value.1)) p.lines_value.0 c.header_size-header.ensures in
-    (omega (arith, f.0, p.lines_value.0), omega (arith, f.1, p.lines_value.0), z.0, z.1)
+    let f = few _ c.args.day.0 p.sound_words.0 in
+    let z = list_size _ _ p.sound_words.0 p.sound_words.1 (omega (arith, p.lines_given.0, p.lines_given.1)) p.lines_given.0 c.header_size-header.ensures in
+    (omega (arith, f.0, p.lines_given.0), omega (arith, f.1, p.lines_given.0), z.0, z.1)
 
 -- the lines' size as it is added up
 added_up : (c : After-lines_size) →
@@ -36,7 +36,7 @@ added_up : (c : After-lines_size) →
     c.lines_size.result ≡ length (encode_lines (standing_lines (entries_of a.words.now) a.day.0))
 added_up c =
     c.lines_size.ensures
-    ∙ sym (ap (λ (ls : List Line). length (encode_lines ls)) (whole _ _ c.requires.words_value.0))
+    ∙ sym (ap (λ (ls : List Line). length (encode_lines ls)) (whole _ _ c.requires.sound_words.0))
 
 pub overflow_mul-lines : goal.overflow_mul-lines
 overflow_mul-lines c = omega (arith, (sized (goal.at.overflow_mul-lines c).After-header_size-header).0)

@@ -18,7 +18,7 @@ use Rattle.listing.proofs.write_all.Goals as goal
 some_line : (c : After-write_header) →
     let a = c.args in
     0 < length (standing_lines (entries_of a.words.now) a.day.0)
-some_line c = let p = c.requires.lines_value in omega (arith, p.0, p.1)
+some_line c = let p = c.requires.lines_given in omega (arith, p.0, p.1)
 
 started : (c : After-write_header) →
     let a = c.args in
@@ -27,20 +27,20 @@ started : (c : After-write_header) →
 started c =
     let p = c.requires in
     let w = c.write_header.ensures in
-    header_written _ _ p.words_value.0 p.words_value.1 (some_line c) _ p.day_in_bounds _ p.lines_value.0 w.value w.after
+    header_written _ _ p.sound_words.0 p.sound_words.1 (some_line c) _ p.room _ p.lines_given.0 w.value w.after
 
 pub write_lines-requires : goal.write_lines-requires
 write_lines-requires c =
     let p = c.requires in
     let w = started (goal.at.write_lines-requires c).After-write_header in
     let at = up_to w.0 c.in-UpTo.is in
-    record { words_value = p.words_value.0; day_in_bounds = lines_fit _ _ p.words_value.0 p.words_value.1 (some_line (goal.at.write_lines-requires c).After-write_header) _ p.day_in_bounds at w.1 }
+    record { sound_words = p.sound_words.0; room = lines_fit _ _ p.sound_words.0 p.sound_words.1 (some_line (goal.at.write_lines-requires c).After-write_header) _ p.room at w.1 }
 
 pub returns-in-UpTo : goal.returns-in-UpTo
 returns-in-UpTo c =
     let p = c.requires in
     let w = started (goal.at.returns-in-UpTo c).After-write_header in
-    let at = up_to w.0 c.in-UpTo.is in both (all_written _ _ p.words_value.0 p.words_value.1 (some_line (goal.at.returns-in-UpTo c).After-write_header) _ p.day_in_bounds at w.1
+    let at = up_to w.0 c.in-UpTo.is in both (all_written _ _ p.sound_words.0 p.sound_words.1 (some_line (goal.at.returns-in-UpTo c).After-write_header) _ p.room at w.1
     c.write_lines.ensures.value
     c.write_lines.ensures.after)
 

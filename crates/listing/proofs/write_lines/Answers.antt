@@ -16,7 +16,7 @@ use Rattle.listing.proofs.write_lines.Goals as goal
 pub loop-left-init : goal.loop-left-init
 loop-left-init c =
     let a = c.args in
-    let s = c.requires.words_value in
+    let s = c.requires.sound_words in
     let w = whole _ a.day s ∙ starts a.words.now a.day c.headed_count-left.ensures in (
       omega (arith, (sound_book _ s).header.count_most, sound_count _ s, c.headed_count-left.ensures),
       refl,
@@ -27,7 +27,7 @@ loop-left-init c =
 pub write_at-end-requires : goal.write_at-end-requires
 write_at-end-requires c =
     let n = length_row _ _ _ c.loop-left-test.true c.args.day c.entry_at-e.ensures in
-    omega (arith, n, c.requires.day_in_bounds)
+    omega (arith, n, c.requires.room)
 
 pub loop-left-preserved : goal.loop-left-preserved
 loop-left-preserved c =

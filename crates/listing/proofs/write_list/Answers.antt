@@ -62,7 +62,7 @@ returns-then-lines-eq0 c =
 pub is_held-requires : goal.is_held-requires
 is_held-requires c =
     let p = ready (goal.at.is_held-requires c).After-count_lines-lines in
-    record { words_value = (usable_sound _ p.0, p.1); lines_value = (p.2, positive c.if-lines-eq0.false) }
+    record { sound_words = (usable_sound _ p.0, p.1); lines_given = (p.2, positive c.if-lines-eq0.false) }
 
 pub returns-then-not-is_held : goal.returns-then-not-is_held
 returns-then-not-is_held c =
@@ -77,9 +77,9 @@ pub write_all-length-requires : goal.write_all-length-requires
 write_all-length-requires c =
     let p = ready (goal.at.write_all-length-requires c).After-count_lines-lines in
     record {
-      words_value = (usable_sound _ p.0, p.1);
-      lines_value = (p.2, positive c.if-lines-eq0.false);
-      day_in_bounds = fits (goal.at.write_all-length-requires c).Else-not-is_held;
+      sound_words = (usable_sound _ p.0, p.1);
+      lines_given = (p.2, positive c.if-lines-eq0.false);
+      room = fits (goal.at.write_all-length-requires c).Else-not-is_held;
     }
 
 pub returns : goal.returns

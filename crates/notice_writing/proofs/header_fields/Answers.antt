@@ -9,10 +9,10 @@ use Rattle.notice_writing.proofs.header_fields.Goals as goal
 pub returns-then-kind-eq-REPLACEMENT : goal.returns-then-kind-eq-REPLACEMENT
 returns-then-kind-eq-REPLACEMENT c =
     let a = c.args in record {
-      count_in_bounds = omega arith;
-      numbers_value = ap (λ (n : ℕ). a.kind ∷ a.received ∷ n ∷ a.country ∷ a.lines ∷ []) c.country_count-digits.ensures
+      within = omega arith;
+      fields = ap (λ (n : ℕ). a.kind ∷ a.received ∷ n ∷ a.country ∷ a.lines ∷ []) c.country_count-digits.ensures
           ∙ replacement_sends _ _ _ _ c.if-kind-eq-REPLACEMENT.true;
     }
 
 pub returns : goal.returns
-returns c = record { count_in_bounds = omega arith; numbers_value = other_sends _ _ _ _ c.if-kind-eq-REPLACEMENT.false }
+returns c = record { within = omega arith; fields = other_sends _ _ _ _ c.if-kind-eq-REPLACEMENT.false }

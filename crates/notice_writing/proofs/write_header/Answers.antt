@@ -13,5 +13,5 @@ returns c =
     both
     (subst
     (λ (ns : List ℕ). ComesAll a.out.now a.at ns w.result w.new.out)
-    c.header_fields.ensures.numbers_value
+    c.header_fields.ensures.fields
     (w.ensures.value, w.ensures.after))

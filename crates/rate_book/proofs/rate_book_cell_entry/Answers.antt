@@ -16,7 +16,7 @@ alike p q r = λ i. entry_answer (p i) (q i) (r i)
 pub overflow_sub-result : goal.overflow_sub-result
 overflow_sub-result c =
     let a = c.args in
-    omega (arith, ap length c.entry_keys-rest.ensures.result_value, rest_within (entry_keys a.country.now a.cell.now (length a.keys.now)) a.cell.now)
+    omega (arith, ap length c.entry_keys-rest.ensures.rest, rest_within (entry_keys a.country.now a.cell.now (length a.keys.now)) a.cell.now)
 
 pub returns : goal.returns
 returns c =
@@ -24,7 +24,7 @@ returns c =
     let x = entry_keys a.country.now a.cell.now (length a.keys.now) in
     let e = c.entry_keys-rest.ensures in record {
       value = alike (ap (λ (l : List ℕ). get_or l 0 0) e.answer_after) (ap (λ (l : List ℕ). get_or l 1 0) e.answer_after)
-          (ap (λ (l : List ℕ). length a.cell.now - length l) e.result_value)
+          (ap (λ (l : List ℕ). length a.cell.now - length l) e.rest)
           ∙ answered x a.cell.now;
       after = e.after;
     }

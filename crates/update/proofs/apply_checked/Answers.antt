@@ -64,4 +64,4 @@ returns c =
     let p = c.requires in
     let f = c.fill-done.ensures in both (accepts a.old.now a.notice.now a.m a.new.now p.0 p.1 p.2 (in_time (goal.at.returns c).Else-m-header) (planned (goal.at.returns c).After-plan_of-plan)
     c.marks_for-marks.ensures c.has_room.ensures
-    (c.if-not-has_room.false) f.count_value.0 f.count_value.1 f.after)
+    (c.if-not-has_room.false) f.value.0 f.value.1 f.after)

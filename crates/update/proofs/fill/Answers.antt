@@ -43,7 +43,7 @@ returns c =
     let m = merged (goal.at.returns c).After-merge-done in
     let h = c.write_header.ensures in
     let p : c.header_of-before.result.period ≡ _ = ap (λ (x : Header). x.period) c.header_of-before.ensures in record {
-      count_value = m;
+      value = m;
       after = book_made a.new.now (merged_by a.old.now a.plan a.marks.now ls) _ _ _ c.requires.1 m.0
           (written_all a.old.now a.plan a.marks.now a.notice.now a.m.start a.m.lines c.requires.0 a.new.now c.requires.1 c.merge-done.ensures.after)
           c.clear.ensures
