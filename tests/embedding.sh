@@ -63,7 +63,7 @@ run_test "the header's constants" tests/embedding/constants.c cc -std=c99
 warns_of_dropped cc -std=c99
 warns_of_dropped g++ -x c++ -std=c++17
 
-sed -n 's/^pub const \([A-Z_]*\): u64 = \([0-9]*\);.*/RATE_BOOK_\1 = \2/p' crates/refusal/src/lib.rt >$out/refusals.code
+sed -n '/^pub enum Refusal/,/^}/s/^ *\([A-Z][A-Za-z]*\) = \([0-9]*\),.*/\1 = \2/p' crates/refusal/src/lib.rt | sed 's/\([a-z]\)\([A-Z]\)/\1_\2/g; s/ANumber/A_Number/; s/\(.*\) = /RATE_BOOK_\U\1\E = /' >$out/refusals.code
 sed -n '/^enum rate_book_refusal/,/^}/s/^ *\(RATE_BOOK_[A-Z_]* = [1-9][0-9]*\).*/\1/p' include/rate_book.h >$out/refusals.header
 sed -n 's/^| \([0-9]*\) | `\([A-Z_]*\)` |.*/RATE_BOOK_\2 = \1/p' docs/REFUSALS.md >$out/refusals.printed
 diff $out/refusals.code $out/refusals.header >"$log" || fail "the header's refusal numbers are not the code's"

@@ -1,12 +1,11 @@
 -- Allowed codes (document 01, "Codes and countries").
-use Rattle.std.specs.Prelude.{◌≡◌, refl, Bool, true, false, cond, ◌&&◌, List, [], ◌∷◌, ℕ, ◌+◌, length, eqb, leb}
-use Rattle.refusal.specs.Refusal.{out_of_range, code_not_allowed}
+use Rattle.std.specs.Prelude.{◌≡◌, refl, Bool, true, false, cond, ◌&&◌, List, [], ◌∷◌, ℕ, ◌+◌, length, eqb, leb, Result, Ok, Err}
 use Rattle.dial_code.specs.Digits.{most_digits, digits, is_written, is_number}
 use Rattle.dial_code.specs.Key.{key, digits_of_key, keys_end, is_gapless}
 use Rattle.country_code.specs.CountryCode.{country_digits}
 use Rattle.country_code.specs.Stretches.{same_places}
-use Rattle.dial_code.specs.declared.Keyed.{Keyed}
-use Rattle.dial_code.specs.declared.Keyed.TheVariants.{Key, Refused}
+use Rattle.refusal.specs.declared.Refusal.TheVariants.{CodeNotAllowed, OutOfRange}
+use Rattle.refusal.specs.declared.Refusal.{Refusal}
 
 -- An allowed code: 1 to 15 digits, the first not 0, and not shorter than its country code (000, 2i).
 unfoldable pub is_code : List ℕ → Bool
@@ -25,11 +24,11 @@ unfolding same_places is_gapless is_code_key
 is_code_key_after k w = cond (same_places k w) (is_gapless most_digits w) (is_code_key w)
 
 -- The key of an allowed code sent as a count of digits and a value, or that one is outside its range, or that it is not allowed.
-unfoldable pub sent_code_key : ℕ → ℕ → Keyed
+unfoldable pub sent_code_key : ℕ → ℕ → Result ℕ Refusal
 unfolding key digits is_written is_code
 sent_code_key count v =
-    cond (is_written count v) (cond (is_code (digits count v)) (Key (key (digits count v))) (Refused code_not_allowed))
-    (Refused out_of_range)
+    cond (is_written count v) (cond (is_code (digits count v)) (Ok (key (digits count v))) (Err CodeNotAllowed))
+    (Err OutOfRange)
 
 codes :
     is_code (1 ∷ [])
@@ -91,17 +90,17 @@ sent_codes :
     ∷ sent_code_key 1 2
     ∷ sent_code_key 2 23
     ∷ []
-    ≡ Key 759499667166482
-    ∷ Key (key (2 ∷ 3 ∷ 4 ∷ []))
-    ∷ Key (key (4 ∷ 4 ∷ []))
-    ∷ Key (key (1 ∷ 0 ∷ 0 ∷ 0 ∷ 0 ∷ 0 ∷ 0 ∷ 0 ∷ 0 ∷ 0 ∷ 0 ∷ 0 ∷ 0 ∷ 0 ∷ 0 ∷ []))
-    ∷ Refused 4
-    ∷ Refused 4
-    ∷ Refused 4
-    ∷ Refused 5
-    ∷ Refused 5
-    ∷ Refused 5
-    ∷ Refused 5
+    ≡ Ok 759499667166482
+    ∷ Ok (key (2 ∷ 3 ∷ 4 ∷ []))
+    ∷ Ok (key (4 ∷ 4 ∷ []))
+    ∷ Ok (key (1 ∷ 0 ∷ 0 ∷ 0 ∷ 0 ∷ 0 ∷ 0 ∷ 0 ∷ 0 ∷ 0 ∷ 0 ∷ 0 ∷ 0 ∷ 0 ∷ 0 ∷ []))
+    ∷ Err OutOfRange
+    ∷ Err OutOfRange
+    ∷ Err OutOfRange
+    ∷ Err CodeNotAllowed
+    ∷ Err CodeNotAllowed
+    ∷ Err CodeNotAllowed
+    ∷ Err CodeNotAllowed
     ∷ []
 unfolding sent_code_key
 sent_codes = refl

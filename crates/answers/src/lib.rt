@@ -1,20 +1,19 @@
-// The answers of the library's calls as structs of 64-bit numbers, which a program in C can take.
+// The answers of the library's calls as structs of 64-bit numbers, which a program in C can take: `refusal` is 0 or the number of
+// the refusal, and with one all else is 0 but a blocked call's key.
 #![tactic(auto)]
 
 ghost use Rattle.std.specs.Prelude.{◌≡◌};
-ghost use Rattle.answers.specs.Answers.{applied_of, answer_of, offer_of, call_of, batch_of, list_of, cell_of};
+ghost use Rattle.answers.specs.Answers.{applied_of, answer_of, offer_of, call_of, batch_of, list_of, cell_of, number_or_zero};
 
 use batch::Batch;
-use cell_keys::CellCount;
 use history::Applied;
-use listing::Listed;
 use longest_match::Answer;
-use lookup::Lookup;
 use rate::Offer;
 use rating::Call;
+use refusal::Refusal;
 
 #[repr(C)]
-#[derive(Clone, Copy)]
+#[derive(Clone, Copy, PartialEq, Eq)]
 pub struct RateBookApplied {
     pub refusal: u64,
     pub entries: u64,
@@ -24,7 +23,7 @@ pub struct RateBookApplied {
 
 // `status` is 0 for closed, 1 for blocked, 2 for open; rate and increments are 0 unless it is open.
 #[repr(C)]
-#[derive(Clone, Copy)]
+#[derive(Clone, Copy, PartialEq, Eq)]
 pub struct RateBookOffer {
     pub refusal: u64,
     pub key: u64,
@@ -35,7 +34,7 @@ pub struct RateBookOffer {
 }
 
 #[repr(C)]
-#[derive(Clone, Copy)]
+#[derive(Clone, Copy, PartialEq, Eq)]
 pub struct RateBookCall {
     pub refusal: u64,
     pub key: u64,
@@ -44,7 +43,7 @@ pub struct RateBookCall {
 }
 
 #[repr(C)]
-#[derive(Clone, Copy)]
+#[derive(Clone, Copy, PartialEq, Eq)]
 pub struct RateBookBatch {
     pub refusal: u64,
     pub rated: u64,
@@ -53,14 +52,14 @@ pub struct RateBookBatch {
 }
 
 #[repr(C)]
-#[derive(Clone, Copy)]
+#[derive(Clone, Copy, PartialEq, Eq)]
 pub struct RateBookList {
     pub refusal: u64,
     pub length: u64,
 }
 
 #[repr(C)]
-#[derive(Clone, Copy)]
+#[derive(Clone, Copy, PartialEq, Eq)]
 pub struct RateBookCell {
     pub refusal: u64,
     pub count: u64,
@@ -68,108 +67,153 @@ pub struct RateBookCell {
 
 // `rest` is where the part of the cell still to be read begins.
 #[repr(C)]
-#[derive(Clone, Copy)]
+#[derive(Clone, Copy, PartialEq, Eq)]
 pub struct RateBookCellEntry {
     pub refusal: u64,
     pub count: u64,
     pub rest: u64,
 }
 
-pub fn applied_of(a: Applied) -> RateBookApplied
-    ensures { result ≡ applied_of a }
+// The number of a refusal, 0 for none.
+pub fn number_or_zero(answer: Result<(), Refusal>) -> u64
+    ensures { result ≡ number_or_zero answer }
 {
-    RateBookApplied {
-        refusal: a.refusal,
-        entries: a.entries,
-        received: a.received,
-        latest: a.latest,
+    match answer {
+        Ok(()) => 0,
+        Err(e) => e.number(),
     }
 }
 
-fn answer_of(a: Answer) -> RateBookOffer
-    ensures { result ≡ answer_of a.key a.offer }
-{
-    let offer = a.offer;
-    match offer {
-        Offer::Closed => RateBookOffer {
+impl From<Result<Applied, Refusal>> for RateBookApplied {
+    ghost from_gives = { λ answer r. r ≡ applied_of answer };
+
+    fn from(answer: Result<Applied, Refusal>) -> RateBookApplied {
+        match answer {
+            Ok(a) => RateBookApplied {
+                refusal: 0,
+                entries: a.entries,
+                received: a.received,
+                latest: a.latest,
+            },
+            Err(e) => RateBookApplied {
+                refusal: e.number(),
+                entries: 0,
+                received: 0,
+                latest: 0,
+            },
+        }
+    }
+}
+
+impl From<Answer> for RateBookOffer {
+    ghost from_gives = { λ answer r. r ≡ answer_of answer.key answer.offer };
+
+    fn from(answer: Answer) -> RateBookOffer {
+        let (status, rate, first, next) = match answer.offer {
+            Offer::Closed => (0, 0, 0, 0),
+            Offer::Blocked => (1, 0, 0, 0),
+            Offer::Open { rate, first, next } => {
+                (2, u64::from(rate.0), u64::from(first), u64::from(next))
+            }
+        };
+        RateBookOffer {
             refusal: 0,
-            key: a.key,
-            status: 0,
-            rate: 0,
-            first: 0,
-            next: 0,
-        },
-        Offer::Blocked => RateBookOffer {
-            refusal: 0,
-            key: a.key,
-            status: 1,
-            rate: 0,
-            first: 0,
-            next: 0,
-        },
-        Offer::Open { rate, first, next } => RateBookOffer {
-            refusal: 0,
-            key: a.key,
-            status: 2,
-            rate: rate.0 as u64,
-            first: first as u64,
-            next: next as u64,
-        },
+            key: answer.key,
+            status,
+            rate,
+            first,
+            next,
+        }
     }
 }
 
-pub fn offer_of(found: Lookup) -> RateBookOffer
-    ensures { result ≡ offer_of found }
-{
-    match found {
-        Lookup::Found(a) => answer_of(a),
-        Lookup::Refused(e) => RateBookOffer {
-            refusal: e,
-            key: 0,
-            status: 0,
-            rate: 0,
-            first: 0,
-            next: 0,
-        },
+impl From<Result<Answer, Refusal>> for RateBookOffer {
+    ghost from_gives = { λ found r. r ≡ offer_of found };
+
+    fn from(found: Result<Answer, Refusal>) -> RateBookOffer {
+        match found {
+            Ok(answer) => RateBookOffer::from(answer),
+            Err(e) => RateBookOffer {
+                refusal: e.number(),
+                key: 0,
+                status: 0,
+                rate: 0,
+                first: 0,
+                next: 0,
+            },
+        }
     }
 }
 
-pub fn call_of(c: Call) -> RateBookCall
-    ensures { result ≡ call_of c }
-{
-    RateBookCall {
-        refusal: c.refusal,
-        key: c.key,
-        seconds: c.seconds,
-        charge: c.charge,
+impl From<Call> for RateBookCall {
+    ghost from_gives = { λ call r. r ≡ call_of call };
+
+    fn from(call: Call) -> RateBookCall {
+        match call.charged {
+            Ok(charged) => RateBookCall {
+                refusal: 0,
+                key: call.key,
+                seconds: charged.seconds,
+                charge: charged.amount,
+            },
+            Err(e) => RateBookCall {
+                refusal: e.number(),
+                key: call.key,
+                seconds: 0,
+                charge: 0,
+            },
+        }
     }
 }
 
-pub fn batch_of(b: Batch) -> RateBookBatch
-    ensures { result ≡ batch_of b }
-{
-    RateBookBatch {
-        refusal: b.refusal,
-        rated: b.rated,
-        refused: b.refused,
-        total: b.total,
+impl From<Result<Batch, Refusal>> for RateBookBatch {
+    ghost from_gives = { λ answer r. r ≡ batch_of answer };
+
+    fn from(answer: Result<Batch, Refusal>) -> RateBookBatch {
+        match answer {
+            Ok(b) => RateBookBatch {
+                refusal: 0,
+                rated: b.rated,
+                refused: b.refused,
+                total: b.total,
+            },
+            Err(e) => RateBookBatch {
+                refusal: e.number(),
+                rated: 0,
+                refused: 0,
+                total: 0,
+            },
+        }
     }
 }
 
-pub fn list_of(l: Listed) -> RateBookList
-    ensures { result ≡ list_of l }
-{
-    RateBookList {
-        refusal: l.refusal,
-        length: l.length as u64,
+impl From<Result<usize, Refusal>> for RateBookList {
+    ghost from_gives = { λ written r. r ≡ list_of written };
+
+    fn from(written: Result<usize, Refusal>) -> RateBookList {
+        match written {
+            Ok(length) => RateBookList {
+                refusal: 0,
+                length: length as u64,
+            },
+            Err(e) => RateBookList {
+                refusal: e.number(),
+                length: 0,
+            },
+        }
     }
 }
 
-pub fn cell_of(c: CellCount) -> RateBookCell
-    ensures { result ≡ cell_of c }
-{
-    RateBookCell {
-        refusal: c.refusal,
-        count: c.count,
+impl From<Result<u64, Refusal>> for RateBookCell {
+    ghost from_gives = { λ written r. r ≡ cell_of written };
+
+    fn from(written: Result<u64, Refusal>) -> RateBookCell {
+        match written {
+            Ok(count) => RateBookCell { refusal: 0, count },
+            Err(e) => RateBookCell {
+                refusal: e.number(),
+                count: 0,
+            },
+        }
     }
 }

@@ -1,19 +1,22 @@
 -- What a sound header and a sound book tell, each as one record, and the entries held. Assumes nothing.
-use mathlib.Core.Path.{◌≡◌, refl, sym, ◌∙◌}
+use mathlib.Core.Path.{◌≡◌, refl, ap, sym, ◌∙◌}
 use mathlib.Core.Bool.{Bool, true, false, cond, ◌&&◌}
+use Rattle.std.proofs.Common.{Option, Some, None, unwrap_or}
 use mathlib.Core.List.{List}
-use Prim.Native.Nat.{ℕ, ◌+◌, ◌-◌, ◌*◌, ◌≤◌, ◌<◌}
+use Prim.Native.Nat.{ℕ, ◌+◌, ◌-◌, ◌*◌, ◌≤◌}
 use native.Mathlib.Omega.{arith}
-use borrow.Author.Tests.{le-leb, lt-leb, leb-true}
+use borrow.Author.Tests.{le-leb, leb-true}
 use lib.Dec.{leb}
-use lib.ListN.{length, drop}
-use Rattle.dial_code.proofs.Tests.{both, and_right_false}
+use lib.ListN.{length, drop, take}
+use Rattle.slice_laws.proofs.Slices.{rest}
+use Rattle.dial_code.proofs.Tests.{both, and_left_false, and_left_true}
 use Rattle.calendar.specs.Time.{last_day, last_received_day}
 use Rattle.book_words.specs.Layout.{header_words, entry_words, most_period}
-use Rattle.book_words.specs.Layout.{most_entries, count_of, period_of, received_of, latest_of, held, entries_of}
-use Rattle.book.specs.Soundness.{sound_entries, all_zero, sound_header, headed_count, sound}
+use Rattle.book_words.specs.Layout.{most_entries, count_of, period_of, received_of, latest_of, held, entries_from, entries_of}
+use Rattle.book.specs.Soundness.{sound_entries, all_zero, sound_header, counted, headed_count, sound}
 use Rattle.book_words.proofs.BookWords.{held_fits}
-use Rattle.book.proofs.Rules.{header_test, sound_test, by_latest, by_rest}
+use Rattle.book_words.proofs.Rows.{of_book}
+use Rattle.book.proofs.Rules.{header_test, sound_test}
 
 -- A sound header: the count within the entries held, so that there are words for as many entries, and the ranges.
 pub record Headed (ws : List ℕ) : Type 0 where
@@ -65,37 +68,74 @@ pub book_sound :
     → sound_entries (entries_of ws) ≡ true
     → all_zero (drop (header_words + count_of ws * entry_words) ws) ≡ true
     → sound ws ≡ true
-book_sound ws l n p r e s u = by_rest ws l (by_latest ws n p r ∙ le-leb _ _ e) s ∙ u
+book_sound ws l n p r e s u =
+    sound_test ws
+    ∙ rw (header_test ws, le-leb _ _ l, le-leb _ _ n, le-leb _ _ p, le-leb _ _ r, le-leb _ _ e, s, u)
 
 -- The entries that a header counts, by the tests of the code; there are words for all of them, and they are not too many.
+counted_cases : (ws : List ℕ) (P : Option ℕ → Type 0)
+    → (header_words ≤ length ws → sound_header ws ≡ true → P (Some (count_of ws)))
+    → P None
+    → P (counted ws)
+unfolding counted
+counted_cases ws P f g = go (leb header_words (length ws)) refl (sound_header ws) refl
+  where
+    go : (t : Bool) → leb header_words (length ws) ≡ t → (u : Bool) → sound_header ws ≡ u
+        → P (cond (t && u) (Some (count_of ws)) None)
+    go true p true q = f (leb-true header_words (length ws) p) q
+    go true p false q = g
+    go false p u q = g
+
 module _ (ws : List ℕ) where
   pub headed_count_law : header_words ≤ length ws → sound_header ws ≡ true → headed_count ws ≡ count_of ws
   unfolding headed_count
   headed_count_law l h = rw (le-leb header_words (length ws) l, h)
 
-  pub no_words : length ws < header_words → headed_count ws ≡ 0
-  unfolding headed_count
-  no_words h = rw (lt-leb header_words (length ws) h)
-
-  pub no_header : sound_header ws ≡ false → headed_count ws ≡ 0
-  unfolding headed_count
-  no_header h = rw (and_right_false (leb header_words (length ws)) h)
-
   pub count_room : (headed_count ws * entry_words ≤ length ws - header_words) × (headed_count ws ≤ most_entries)
   unfolding headed_count
-  count_room = go (leb header_words (length ws)) refl (sound_header ws) refl
-    where
-      go :
-          (t : Bool)
-          → leb header_words (length ws) ≡ t
-          → (u : Bool)
-          → sound_header ws ≡ u
-          → (cond (t && u) (count_of ws) 0 * entry_words ≤ length ws - header_words) × (cond (t && u) (count_of ws) 0 ≤ most_entries)
-      go true p true q =
-          let h = headed ws (leb-true header_words (length ws) p) q in
-          (omega (arith, h.room), h.count_most)
-      go true p false q = (omega arith, omega arith)
-      go false p u q = (omega arith, omega arith)
+  count_room =
+      counted_cases ws
+      (λ n. (unwrap_or n 0 * entry_words ≤ length ws - header_words) × (unwrap_or n 0 ≤ most_entries))
+      (λ l s. let h = headed ws l s in (omega (arith, h.room), h.count_most))
+      (omega arith, omega arith)
+
+-- A book by the steps of the code: a header that counts no entries; entries that are not sound; unused words.
+pub no_count : (ws : List ℕ) → counted ws ≡ None → sound ws ≡ false
+unfolding counted
+no_count ws e = go (leb header_words (length ws)) refl (sound_header ws) refl e
+  where
+    go : (t : Bool) → leb header_words (length ws) ≡ t → (u : Bool) → sound_header ws ≡ u
+        → cond (t && u) (Some (count_of ws)) None ≡ None → sound ws ≡ false
+    go true p true q e = absurd (cc)
+    go true p false q e = sound_test ws ∙ rw (p, q)
+    go false p u q e = sound_test ws ∙ rw p
+
+module _ (ws : List ℕ) (n : ℕ) (e : counted ws ≡ Some n) where
+  pub counted_room : (n ≤ most_entries) × (header_words + n * entry_words ≤ length ws)
+  counted_room =
+      counted_cases ws
+      (λ c. c ≡ Some n → (n ≤ most_entries) × (header_words + n * entry_words ≤ length ws))
+      (λ l s q. let k : count_of ws ≡ n = cc in let h = headed ws l s in (omega (arith, h.count_most), omega (arith, h.room)))
+      (λ q. absurd (cc))
+      e
+
+  counted_rest : sound ws ≡ (sound_entries (entries_from ws header_words n) && all_zero (drop (header_words + n * entry_words) ws))
+  counted_rest =
+      counted_cases ws
+      (λ c. c ≡ Some n → sound ws ≡ (sound_entries (entries_from ws header_words n) && all_zero (drop (header_words + n * entry_words) ws)))
+      (λ l s q. let k : count_of ws ≡ n = cc in sound_test ws ∙ rw (le-leb header_words (length ws) l, s, of_book ws, k))
+      (λ q. absurd (cc))
+      e
+
+  pub bad_entries : sound_entries (entries_from ws header_words n) ≡ false → sound ws ≡ false
+  bad_entries h = counted_rest ∙ and_left_false _ h
+
+  pub by_unused :
+      sound_entries (entries_from ws header_words n) ≡ true
+      → all_zero (take (length ws - (header_words + n * entry_words)) (drop (header_words + n * entry_words) ws)) ≡ sound ws
+  by_unused h = ap all_zero (rest ws (header_words + n * entry_words)) ∙ sym (counted_rest ∙ and_left_true _ h)
+
+pub ruleset sound_steps = (no_count, counted_room, bad_entries, by_unused)
 
 -- In a sound book they are all.
 pub sound_count : (ws : List ℕ) → sound ws ≡ true → headed_count ws ≡ count_of ws

@@ -1,14 +1,15 @@
--- The rules of soundness, opened one at a time, and their cases in the order of the code. Assumes nothing.
-use mathlib.Core.Path.{◌≡◌, refl, ◌∙◌}
-use mathlib.Core.Bool.{true, false, cond, ◌&&◌, not}
+-- The rules of soundness, opened one at a time, and some of their cases. Assumes nothing.
+use mathlib.Core.Path.{◌≡◌, refl, sym, ◌∙◌}
+use mathlib.Core.Bool.{true, cond, ◌&&◌, not}
 use mathlib.Core.List.{List, [], ◌∷◌}
 use Prim.Native.Nat.{ℕ, ◌+◌, ◌*◌, ◌≤◌, ◌<◌}
 use native.Mathlib.Omega.{arith}
-use borrow.Author.Tests.{le-leb, lt-leb, lt-ltb, le-ltb, eq-eqb, ne_eqb}
+use borrow.Author.Tests.{le-leb, lt-ltb, eq-eqb, ne_eqb}
 use lib.Dec.{eqb, leb, ltb}
 use lib.ListN.{length, drop}
-use Rattle.allowed_code.specs.Code.{is_code_key}
-use Rattle.dial_code.proofs.Tests.{and_left_false, and_left_true, and_right_false, and_right_true}
+use Rattle.allowed_code.specs.Code.{is_code_key, is_code_key_after}
+use Rattle.allowed_code.proofs.CodeLaws.{after_code}
+use Rattle.dial_code.proofs.Tests.{and_left_true, and_right_true}
 use Rattle.calendar.specs.Time.{last_received_day, last_day}
 use Rattle.book_words.specs.Layout.{header_words, entry_words, most_period}
 use Rattle.book_words.specs.Layout.{count_of, period_of, received_of, latest_of, entries_of, held}
@@ -68,74 +69,28 @@ pub sound_test :
 unfolding sound
 sound_test ws = refl
 
--- An entry by the tests of the code: out of range, closed at the start, another code's, of the same code.
+-- An entry in range by its day; the first of a code; one after another, of the same key and of a larger one.
 module _ (e : Entry) where
-  pub late : last_day < e.day → in_range e ≡ false
-  late h = range_test e ∙ and_left_false _ (lt-leb _ _ h)
-
   pub by_word : e.day ≤ last_day → in_range e ≡ is_offer_word e.offer
   by_word h = range_test e ∙ and_left_true _ (le-leb _ _ h)
-
-  pub not_open : (not (eqb e.offer 0) && in_range e) ≡ false → begins e ≡ false
-  not_open h = begins_test e ∙ and_right_false (is_code_key e.key) h
 
   pub by_key : (not (eqb e.offer 0) && in_range e) ≡ true → begins e ≡ is_code_key e.key
   by_key h = begins_test e ∙ and_right_true (is_code_key e.key) h
 
 module _ (e f : Entry) where
-  module _ (k : e.key ≡ f.key) where
-    pub not_later : f.day ≤ e.day → follows e f ≡ false
-    not_later h = follows_test e f ∙ rw (eq-eqb e.key f.key k, le-ltb e.day f.day h)
-
-    pub repeated : e.offer ≡ f.offer → follows e f ≡ false
-    repeated h =
-        follows_test e f
-        ∙ rw (eq-eqb e.key f.key k, eq-eqb e.offer f.offer h) (and_right_false (ltb e.day f.day) refl)
-
-    pub changed : e.day < f.day → (e.offer ≡ f.offer → ⊥) → follows e f ≡ in_range f
-    changed h n =
-        follows_test e f
-        ∙ rw (eq-eqb e.key f.key k, lt-ltb e.day f.day h, ne_eqb e.offer f.offer n)
-
-  pub smaller_key : f.key < e.key → follows e f ≡ false
-  smaller_key h =
+  pub changed : e.key ≡ f.key → e.day < f.day → (e.offer ≡ f.offer → ⊥) → follows e f ≡ in_range f
+  changed k h n =
       follows_test e f
-      ∙ rw (ne_eqb e.key f.key (λ (k : e.key ≡ f.key). omega arith), le-ltb e.key f.key (omega arith))
+      ∙ rw (eq-eqb e.key f.key k, lt-ltb e.day f.day h, ne_eqb e.offer f.offer n)
 
   pub larger_key : e.key < f.key → follows e f ≡ begins f
   larger_key h =
       follows_test e f
       ∙ rw (ne_eqb e.key f.key (λ (k : e.key ≡ f.key). omega arith), lt-ltb e.key f.key h)
 
--- The header by the tests of the code.
-module _ (ws : List ℕ) where
-  pub count_over : held (length ws) < count_of ws → sound_header ws ≡ false
-  count_over h = header_test ws ∙ and_left_false _ (lt-leb _ _ h)
-
-  module _ (n : count_of ws ≤ held (length ws)) where
-    pub period_over : most_period < period_of ws → sound_header ws ≡ false
-    period_over h = header_test ws ∙ and_left_true _ (le-leb _ _ n) ∙ and_left_false _ (lt-leb _ _ h)
-
-    module _ (p : period_of ws ≤ most_period) where
-      pub received_over : last_received_day < received_of ws → sound_header ws ≡ false
-      received_over h =
-          header_test ws ∙ and_left_true _ (le-leb _ _ n) ∙ and_left_true _ (le-leb _ _ p) ∙ and_left_false _ (lt-leb _ _ h)
-
-      pub by_latest : received_of ws ≤ last_received_day → sound_header ws ≡ leb (latest_of ws) last_day
-      by_latest r =
-          header_test ws ∙ and_left_true _ (le-leb _ _ n) ∙ and_left_true _ (le-leb _ _ p) ∙ and_left_true _ (le-leb _ _ r)
-
-  -- The book by the tests of the code.
-  pub too_short : length ws < header_words → sound ws ≡ false
-  too_short h = sound_test ws ∙ and_left_false _ (lt-leb _ _ h)
-
-  module _ (l : header_words ≤ length ws) where
-    pub bad_header : sound_header ws ≡ false → sound ws ≡ false
-    bad_header h = sound_test ws ∙ and_left_true _ (le-leb _ _ l) ∙ and_left_false _ h
-
-    module _ (h : sound_header ws ≡ true) where
-      pub bad_entries : sound_entries (entries_of ws) ≡ false → sound ws ≡ false
-      bad_entries e = sound_test ws ∙ and_left_true _ (le-leb _ _ l) ∙ and_left_true _ h ∙ and_left_false _ e
-
-      pub by_rest : sound_entries (entries_of ws) ≡ true → sound ws ≡ all_zero (drop (header_words + count_of ws * entry_words) ws)
-      by_rest e = sound_test ws ∙ and_left_true _ (le-leb _ _ l) ∙ and_left_true _ h ∙ and_left_true _ e
+  pub next_code :
+      is_code_key e.key ≡ true
+      → e.key < f.key
+      → (not (eqb f.offer 0) && in_range f) ≡ true
+      → follows e f ≡ is_code_key_after e.key f.key
+  next_code c k o = larger_key k ∙ by_key f o ∙ sym (after_code e.key f.key c)

@@ -1,16 +1,12 @@
--- The soundness of entries one entry at a time, and words that are 0 from a place on. Assumes nothing.
+-- The soundness of entries one entry at a time. Assumes nothing.
 use mathlib.Core.Path.{◌≡◌, ap, ◌∙◌}
-use mathlib.Core.Bool.{true, false, ◌&&◌}
+use mathlib.Core.Bool.{true, ◌&&◌}
 use mathlib.Core.List.{List}
-use Prim.Native.Nat.{ℕ, ◌+◌, ◌-◌, ◌≤◌, ◌<◌}
-use native.Mathlib.Numerals.{add-one}
-use borrow.Author.Tests.{eq-eqb, ne_eqb}
-use lib.ListN.{length, get_or, drop, drop_of_length-le}
-use lib.Seq.{drop-cons}
+use Prim.Native.Nat.{ℕ, ◌+◌, ◌-◌, ◌<◌}
 use Rattle.book_words.specs.Layout.{header_words, entry_words, entry_at, entries_from}
 use Rattle.book_words.specs.declared.Entry.{Entry}
 use Rattle.book_words.proofs.Rows.{rows_none, rows_step}
-use Rattle.book.specs.Soundness.{begins, follows, sound_after, sound_entries, all_zero}
+use Rattle.book.specs.Soundness.{begins, follows, sound_after, sound_entries}
 use Rattle.book.proofs.Rules.{none_after, one_after, no_entries, some_entries}
 
 -- The entries' soundness one entry at a time: none, the first, the one after another, the last.
@@ -35,17 +31,3 @@ module _ (ws : List ℕ) where
 
   pub sound_end : (e : Entry) (at n : ℕ) → n ≡ 0 → sound_after e (entries_from ws at n) ≡ true
   sound_end e at n h = ap (sound_after e) (rows_none ws at n h) ∙ none_after e
-
--- Words that are 0 from a place on: a word that is not, one that is, and no word left.
-module _ (ws : List ℕ) (i : ℕ) where
-  pub not_zero : i < length ws → (get_or ws i 0 ≡ 0 → ⊥) → all_zero (drop i ws) ≡ false
-  unfolding all_zero
-  not_zero h n = rw (drop-cons ws i 0 h, ne_eqb (get_or ws i 0) 0 n)
-
-  pub one_zero : i < length ws → get_or ws i 0 ≡ 0 → all_zero (drop i ws) ≡ all_zero (drop (i + 1) ws)
-  unfolding all_zero
-  one_zero h e = rw (drop-cons ws i 0 h, eq-eqb (get_or ws i 0) 0 e, add-one)
-
-  pub all_seen : length ws ≤ i → all_zero (drop i ws) ≡ true
-  unfolding all_zero
-  all_seen h = rw (drop_of_length-le ws h)

@@ -11,14 +11,14 @@ use Rattle.allowed_code.specs.Code.{is_code_key}
 use Rattle.dial_code.proofs.Tests.{and_left_true, and_left_false, and_right_false}
 use Rattle.calendar.specs.Time.{last_day}
 use Rattle.rate.specs.OfferWord.{offer_of, word_of}
-use Rattle.rate.specs.declared.Stored.{Stored}
-use Rattle.rate.specs.declared.Stored.TheVariants.{Holds, Invalid}
+use Rattle.rate.specs.declared.Offer.{Offer}
 use Rattle.rate.proofs.Words.{only_word}
-use Rattle.book.specs.Soundness.{is_held, is_offer_word}
+use Rattle.book.specs.Soundness.{is_offer_word}
 use Rattle.book.specs.Status.{status_from, status_in, held_offer, offer_in}
 use Rattle.book_words.specs.declared.Entry.{Entry}
 use Rattle.book_words.proofs.Rows.{entry_in}
 use Rattle.book.proofs.SoundLists.{After, same, next, SoundFrom, Sound, each_allowed, keys_rise}
+use Rattle.std.proofs.Common.{Option, Some, None, is_some}
 
 -- The status of a code in entries one after the other.
 pub status_append : (w : ℕ) (es fs : List Entry) (k d : ℕ) → status_from w (es ++ fs) k d ≡ status_from (status_from w es k d) fs k d
@@ -184,13 +184,13 @@ module _ (es : List Entry) (x d : ℕ) (s : Sound es) where
   unfolding is_offer_word offer_of
   status_is_word = ap is_offer_word (starts_closed es x d) ∙ status_word 0 0 0 0 es x d s refl
 
-  pub offer_held : offer_of (status_in es x d) ≡ Holds (offer_in es x d)
+  pub offer_held : offer_of (status_in es x d) ≡ Some (offer_in es x d)
   unfolding offer_in is_offer_word
   offer_held = go (offer_of (status_in es x d)) status_is_word
     where
-      go : (o : Stored) → is_held o ≡ true → o ≡ Holds (held_offer o)
-      go (Holds o) h = refl
-      go Invalid h = absurd (false≢true h)
+      go : (o : Option Offer) → is_some o ≡ true → o ≡ Some (held_offer o)
+      go (Some o) h = refl
+      go None h = absurd (false≢true h)
 
   pub offer_word : word_of (offer_in es x d) ≡ status_in es x d
   offer_word = (only_word (status_in es x d) (offer_in es x d) offer_held).0

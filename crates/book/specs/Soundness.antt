@@ -1,25 +1,20 @@
 -- When a book is sound (document 01, "The book"): entries rise by key then day, each key is that of an allowed code, days and
 -- offer words are in range, no code starts closed or repeats its status, unused words are 0; the header is in range, its two
 -- days tested for range only.
-use Rattle.std.specs.Prelude.{◌≡◌, refl, Bool, true, false, cond, ◌&&◌, not, List, [], ◌∷◌, ◌++◌, ℕ, ◌+◌, ◌-◌, ◌*◌, eqb, leb, ltb, length, drop, replicate}
+use Rattle.std.specs.Prelude.{◌≡◌, refl, Bool, true, false, cond, ◌&&◌, not, List, [], ◌∷◌, ◌++◌, ℕ, ◌+◌, ◌-◌, ◌*◌, eqb, leb, ltb, length, drop, replicate, Option, Some, None, is_some, unwrap_or}
+use Rattle.std.specs.List.{list_all}
 use Rattle.allowed_code.specs.Code.{is_code_key}
 use Rattle.dial_code.specs.Key.{key}
 use Rattle.calendar.specs.Time.{last_day, last_received_day}
 use Rattle.rate.specs.OfferWord.{offer_of}
-use Rattle.rate.specs.declared.Stored.{Stored}
-use Rattle.rate.specs.declared.Stored.TheVariants.{Holds, Invalid}
 use Rattle.book_words.specs.Layout.{header_words, entry_words, most_period, count_of, period_of, received_of, latest_of, held, entries_of}
 use Rattle.book_words.specs.Layout.{header, words_of_header, entry, words_of}
 use Rattle.book_words.specs.declared.Entry.{Entry}
 use Rattle.book_words.specs.declared.Header.{Header}
 
-abbrev pub is_held : Stored → Bool
-is_held (Holds o) = true
-is_held Invalid = false
-
 -- an offer word in range
 unfoldable pub is_offer_word : ℕ → Bool
-is_offer_word w = is_held (offer_of w)
+is_offer_word w = is_some (offer_of w)
 
 -- An entry by itself: its day and its offer word are in range.
 unfoldable pub in_range : Entry → Bool
@@ -50,8 +45,7 @@ sound_entries [] = true
 sound_entries (e ∷ es) = begins e && sound_after e es
 
 unfoldable pub all_zero : List ℕ → Bool
-all_zero [] = true
-all_zero (w ∷ ws) = eqb w 0 && all_zero ws
+all_zero ws = list_all (λ w. eqb w 0) ws
 
 -- The header words: the entry count within the entries held, the notice period and the two days in range.
 unfoldable pub sound_header : List ℕ → Bool
@@ -67,10 +61,14 @@ sound ws =
     leb header_words (length ws)
     && (sound_header ws && (sound_entries (entries_of ws) && all_zero (drop (header_words + count_of ws * entry_words) ws)))
 
--- How many entries a header counts: none where the words have no sound header.
-unfoldable pub headed_count : List ℕ → ℕ
+-- How many entries a header counts, where the words have a sound one; none where not.
+unfoldable pub counted : List ℕ → Option ℕ
 unfolding sound_header
-headed_count ws = cond (leb header_words (length ws) && sound_header ws) (count_of ws) 0
+counted ws = cond (leb header_words (length ws) && sound_header ws) (Some (count_of ws)) None
+
+unfoldable pub headed_count : List ℕ → ℕ
+unfolding counted
+headed_count ws = unwrap_or (counted ws) 0
 
 -- a fresh book, P1's book, and books broken in one word each: a count too large, a period, a day, a code not allowed, an entry's
 -- day, an offer word, a closed start, an unused word

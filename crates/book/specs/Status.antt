@@ -1,11 +1,9 @@
 -- The status of a code on a day (document 01, "The plain machine" and "The book").
-use Rattle.std.specs.Prelude.{◌≡◌, refl, cond, ◌&&◌, List, [], ◌∷◌, ℕ, eqb, leb}
+use Rattle.std.specs.Prelude.{◌≡◌, refl, cond, ◌&&◌, List, [], ◌∷◌, ℕ, eqb, leb, Option, unwrap_or}
 use Rattle.dial_code.specs.Key.{key}
 use Rattle.rate.specs.OfferWord.{offer_of}
 use Rattle.rate.specs.declared.Offer.{Offer}
 use Rattle.rate.specs.declared.Offer.TheVariants.{Closed}
-use Rattle.rate.specs.declared.Stored.{Stored}
-use Rattle.rate.specs.declared.Stored.TheVariants.{Holds, Invalid}
 use Rattle.book_words.specs.Layout.{entry}
 use Rattle.book_words.specs.declared.Entry.{Entry}
 
@@ -19,9 +17,8 @@ unfoldable pub status_in : List Entry → ℕ → ℕ → ℕ
 unfolding status_from
 status_in es k d = status_from 0 es k d
 
-abbrev pub held_offer : Stored → Offer
-held_offer (Holds o) = o
-held_offer Invalid = Closed
+abbrev pub held_offer : Option Offer → Offer
+held_offer o = unwrap_or o Closed
 
 -- The status of a code on a day, as an offer.
 unfoldable pub offer_in : List Entry → ℕ → ℕ → Offer

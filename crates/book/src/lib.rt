@@ -2,78 +2,52 @@
 // being used.
 #![tactic(auto)]
 
-ghost use Rattle.std.specs.Prelude.{◌≡◌, not, ◌&&◌, ◌+◌, ◌*◌, ◌≤◌, true, eqb, length, drop};
+ghost use Rattle.std.specs.Prelude.{◌≡◌, not, ◌&&◌, ◌≤◌, true, eqb, length};
 ghost use Rattle.allowed_code.specs.Code.{is_code_key};
-ghost use Rattle.book_words.specs.Layout.{header_words, most_entries, count_of, entries_from};
-ghost use Rattle.book.specs.Soundness.{is_offer_word, in_range, begins, follows, sound_entries, all_zero, sound_header, headed_count, sound};
-ghost use Rattle.book.specs.Answers.{fresh_refusal, fresh_words, book_refusal};
+ghost use Rattle.book_words.specs.Layout.{header_words, most_entries, entries_from};
+ghost use Rattle.book.specs.Soundness.{in_range, begins, follows, sound_entries, all_zero, sound_header, counted, headed_count, sound};
+ghost use Rattle.book.specs.Answers.{fresh_answer, fresh_words, check_book};
 
-use book_words::{Entry, Header};
+use book_words::{ENTRY_WORDS, Entry, HEADER_WORDS, Header};
 use calendar::Day;
-use rate::Stored;
+use rate::Offer;
+use refusal::Refusal;
 
 const MOST_PERIOD: u64 = 365;
 
-fn is_offer_word(word: u64) -> bool
-    ensures { result ≡ is_offer_word word }
-{
-    match rate::word_offer(word) {
-        Stored::Holds(_) => true,
-        Stored::Invalid => false,
-    }
-}
-
 // Whether an entry's day and offer word are in range.
+#[tactic(auto, unfolding(crate::specs::Soundness::in_range, crate::specs::Soundness::is_offer_word))]
 fn in_range(e: Entry) -> bool
     ensures { result ≡ in_range e }
 {
-    if Day::LAST.0 < e.day {
-        return false;
-    }
-    is_offer_word(e.offer)
+    Day(e.day).in_range() && Offer::try_from(e.offer).is_ok()
 }
 
 // Whether an entry's day and offer can be the first of a code: in range, and not closed.
 fn can_open(e: Entry) -> bool
     ensures { result ≡ (not (eqb e.offer 0) && in_range e) }
 {
-    if e.offer == 0 {
-        return false;
-    }
-    in_range(e)
+    e.offer != 0 && in_range(e)
 }
 
 // Whether an entry can be the first of all.
+#[tactic(auto, unfolding(crate::specs::Soundness::begins))]
 fn can_begin(e: Entry) -> bool
     ensures { result ≡ begins e }
 {
-    if !can_open(e) {
-        return false;
-    }
-    allowed_code::is_code_key(e.key)
+    can_open(e) && allowed_code::is_code_key(e.key)
 }
 
 // Whether one entry can stand after another, which is of an allowed code.
+#[tactic(auto, unfolding(crate::specs::Soundness::begins, crate::specs::Soundness::follows), using(crate::proofs::Rules::next_code))]
 fn can_follow(e: Entry, f: Entry) -> bool
     requires { is_code_key e.key ≡ true }
     ensures { result ≡ follows e f }
 {
     if e.key == f.key {
-        if f.day <= e.day {
-            return false;
-        }
-        if e.offer == f.offer {
-            return false;
-        }
-        return in_range(f);
+        return e.day < f.day && e.offer != f.offer && in_range(f);
     }
-    if f.key < e.key {
-        return false;
-    }
-    if !can_open(f) {
-        return false;
-    }
-    allowed_code::is_code_key_after(e.key, f.key)
+    e.key < f.key && can_open(f) && allowed_code::is_code_key_after(e.key, f.key)
 }
 
 // Whether the first entries are sound, each read once and held against the one before it.
@@ -84,118 +58,98 @@ fn are_sound(words: &[u64], count: usize) -> bool
     if count == 0 {
         return true;
     }
-    let mut before = book_words::entry_at(words, book_words::HEADER_WORDS as u32);
+    let mut before = book_words::entry_at(words, HEADER_WORDS as u32);
     if !can_begin(before) {
         return false;
     }
-    let mut at = (book_words::HEADER_WORDS + book_words::ENTRY_WORDS) as u32;
-    let mut left = count - 1;
-    while 0 < left {
+    let mut at = (HEADER_WORDS + ENTRY_WORDS) as u32;
+    for _ in 1..count {
         let e = book_words::entry_at(words, at);
         if !can_follow(before, e) {
             return false;
         }
         before = e;
-        at += book_words::ENTRY_WORDS as u32;
-        left -= 1;
+        at += ENTRY_WORDS as u32;
     }
     true
 }
 
-// Whether every word from a place on is 0.
-fn is_clear(words: &[u64], from: usize) -> bool
-    ensures { result ≡ all_zero (drop from words.now) }
+// Whether every word is 0.
+#[tactic(auto, unfolding(crate::specs::Soundness::all_zero))]
+fn is_clear(words: &[u64]) -> bool
+    ensures { result ≡ all_zero words.now }
 {
-    let mut i = from;
-    while i < words.len() {
-        if words[i] != 0 {
-            return false;
-        }
-        i += 1;
-    }
-    true
+    words.iter().all(|&word| word == 0)
 }
 
 // Whether the header words are in range, and so many entries held.
+#[tactic(auto, unfolding(crate::specs::Soundness::sound_header))]
 fn is_headed(words: &[u64]) -> bool
     ensures { result ≡ sound_header words.now }
 {
     let h = book_words::header_of(words);
-    if (book_words::entries_held(words.len()) as u64) < h.count {
-        return false;
-    }
-    if MOST_PERIOD < h.period {
-        return false;
-    }
-    if Day::LAST_RECEIVED.0 < h.received {
-        return false;
-    }
-    h.latest <= Day::LAST.0
+    h.count <= book_words::entries_held(words.len()) as u64
+        && h.period <= MOST_PERIOD
+        && Day(h.received).can_be_received()
+        && Day(h.latest).in_range()
 }
 
-fn counted(words: &[u64]) -> u64
-    ensures { result ≡ count_of words.now }
+// How many entries the header counts, where it is sound.
+#[tactic(auto, unfolding(crate::specs::Soundness::counted))]
+fn counted(words: &[u64]) -> Option<usize>
+    ensures { result ≡ counted words.now }
 {
+    if words.len() < HEADER_WORDS || !is_headed(words) {
+        return None;
+    }
     let h = book_words::header_of(words);
-    h.count
+    Some(h.count as usize)
 }
 
 // How many entries the header counts: none where it is not sound.
+#[tactic(auto, unfolding(crate::specs::Soundness::headed_count))]
 pub fn headed_count(words: &[u64]) -> usize
     ensures { result ≡ headed_count words.now }
 {
-    if words.len() < book_words::HEADER_WORDS {
-        return 0;
-    }
-    if !is_headed(words) {
-        return 0;
-    }
-    counted(words) as usize
+    counted(words).unwrap_or(0)
 }
 
 // Whether a book is sound, in one pass over its words.
+#[tactic(auto, using(crate::proofs::Headers::sound_steps))]
 fn is_sound(words: &[u64]) -> bool
     ensures { result ≡ sound words.now }
 {
-    if words.len() < book_words::HEADER_WORDS {
+    let Some(count) = counted(words) else {
         return false;
-    }
-    if !is_headed(words) {
-        return false;
-    }
-    let count = counted(words) as usize;
-    if !are_sound(words, count) {
-        return false;
-    }
-    is_clear(
-        words,
-        book_words::HEADER_WORDS + count * book_words::ENTRY_WORDS,
-    )
+    };
+    are_sound(words, count) && is_clear(&words[HEADER_WORDS + count * ENTRY_WORDS..])
 }
 
-// What keeps a book from being used: 20, 21, or 0.
-pub fn book_refusal(words: &[u64]) -> u64
-    ensures { result ≡ book_refusal words.now }
+// Whether a book can be used: 20, then 21.
+#[tactic(auto, unfolding(crate::specs::Answers::check_book))]
+pub fn check_book(words: &[u64]) -> Result<(), Refusal>
+    ensures { result ≡ check_book words.now }
 {
-    if words.len() < book_words::HEADER_WORDS {
-        return refusal::BOOK_TOO_SHORT;
+    if words.len() < HEADER_WORDS {
+        return Err(Refusal::BookTooShort);
     }
-    if is_sound(words) {
-        return 0;
+    if !is_sound(words) {
+        return Err(Refusal::BookNotSound);
     }
-    refusal::BOOK_NOT_SOUND
+    Ok(())
 }
 
 // Sets every word of a lent slice to a fresh book's; 22 or 20 change none.
-pub fn fresh(words: &mut [u64], period: u64) -> u64
-    ensures value { result ≡ fresh_refusal (length words.old) period }
+#[tactic(auto, unfolding(crate::specs::Answers::fresh_answer, crate::specs::Answers::fresh_words), using(crate::proofs::FreshBooks::cleared))]
+pub fn fresh(words: &mut [u64], period: u64) -> Result<(), Refusal>
+    ensures value { result ≡ fresh_answer (length words.old) period }
     ensures after { words.new ≡ fresh_words words.old period }
 {
-    if MOST_PERIOD < period {
-        return refusal::PERIOD_TOO_LONG;
+    if period > MOST_PERIOD {
+        return Err(Refusal::PeriodTooLong);
     }
-    if words.len() < book_words::HEADER_WORDS {
-        return refusal::BOOK_TOO_SHORT;
+    if words.len() < HEADER_WORDS {
+        return Err(Refusal::BookTooShort);
     }
     book_words::clear(words, 0);
     let header = Header {
@@ -205,5 +159,5 @@ pub fn fresh(words: &mut [u64], period: u64) -> u64
         latest: 0,
     };
     book_words::write_header(words, header);
-    0
+    Ok(())
 }

@@ -1,7 +1,7 @@
 -- A book's words and its entries, header and length. Assumes nothing.
 use mathlib.Core.Path.{◌≡◌, refl, ap, ap₂, sym, ◌∙◌}
 use mathlib.Core.List.{List, [], ◌∷◌, ◌++◌}
-use Prim.Native.Nat.{ℕ, zero, suc, ◌+◌, ◌-◌, ◌*◌, ◌≤◌}
+use Prim.Native.Nat.{ℕ, zero, suc, ◌+◌, ◌-◌, ◌*◌, ◌/◌, ◌≤◌, min}
 use native.Mathlib.Nat.{add-zero}
 use native.Mathlib.Omega.{arith}
 use lib.ListN.{length, get_or, drop, replicate, length-append, length-replicate}
@@ -19,6 +19,14 @@ held_fits n len h e = (omega arith, omega arith)
 pub fits_held : (n len : ℕ) → header_words ≤ len → n ≤ most_entries → header_words + n * entry_words ≤ len → n ≤ held len
 unfolding held
 fits_held n len h m e = omega arith
+
+-- No entry is left out where so many are held.
+pub all_held :
+    (ws : List ℕ) (n : ℕ)
+    → n ≤ held (length ws)
+    → entries_from ws header_words (min n ((length ws - header_words) / entry_words)) ≡ entries_from ws header_words n
+unfolding held
+all_held ws n h = ap (entries_from ws header_words) (omega arith)
 
 -- the i-th word from a place on
 word_at : (ws : List ℕ) (at i : ℕ) {l : List ℕ} → drop at ws ≡ l → get_or ws (at + i) 0 ≡ get_or l i 0

@@ -8,16 +8,11 @@ use native.Mathlib.Numerals.{add-one}
 use native.Mathlib.Omega.{arith}
 use borrow.Author.Tests.{le-leb, lt-leb}
 use lib.Dec.{leb}
-use lib.ListN.{length, get_or, set, drop, replicate}
+use lib.ListN.{length, set, drop, replicate}
 use lib.Seq.{sets, length-sets}
 use Rattle.slice_laws.proofs.Slices.{sets_append}
 use Rattle.book_words.specs.Layout.{header_words, entry_words, words_of, put_entry, put_entries}
 use Rattle.book_words.specs.declared.Entry.{Entry}
-
-pub past_word : (ws : List ℕ) (i : ℕ) → length ws ≤ i → 0 ≡ get_or ws i 0
-past_word [] i h = refl
-past_word (w ∷ ws) zero h = absurd (omega arith)
-past_word (w ∷ ws) (suc i) h = past_word ws i (omega arith)
 
 pub drop_replicate : (k n a : ℕ) → drop k (replicate n a) ≡ replicate (n - k) a
 drop_replicate zero n a = rw sub-zero

@@ -1,13 +1,16 @@
 -- Entries by position and count. Assumes nothing.
-use mathlib.Core.Path.{◌≡◌, refl, ap, ◌∙◌}
-use mathlib.Core.List.{List, [], ◌∷◌}
-use Prim.Native.Nat.{ℕ, zero, suc, ◌+◌, ◌-◌, ◌*◌, ◌≤◌, ◌<◌}
-use native.Mathlib.Numerals.{add-one, sub-one}
+use mathlib.Core.Path.{◌≡◌, refl, ap, ap₂, ◌∙◌}
+use mathlib.Core.List.{List, [], ◌∷◌, map}
+use Prim.Native.Nat.{ℕ, zero, suc, ◌+◌, ◌-◌, ◌*◌, ◌/◌, ◌≤◌, ◌<◌, min}
+use native.Mathlib.Numerals.{sub-one}
 use native.Mathlib.Omega.{arith}
-use lib.ListN.{length, get_or, set, replicate}
-use lib.Seq.{sets}
-use Rattle.book_words.specs.Layout.{header_words, entry_words, no_entry, count_of, entry_at, entries_from, entries_of}
+use lib.ListN.{length, length-drop, get_or, take, drop}
+use lib.Seq.{get_or-take, get_or-drop, drop-drop}
+use lib.Dec.{lit<}
+use native.Mathlib.Nat.{add-zero}
+use Rattle.book_words.specs.Layout.{header_words, entry_words, no_entry, count_of, entry, row_entry, entry_at, entries_from, entries_of}
 use Rattle.book_words.specs.declared.Entry.{Entry}
+use Rattle.std.specs.Simd.{first_chunks}
 
 -- The i-th of some entries, counted from 0.
 abbrev pub entry_in : List Entry → ℕ → Entry
@@ -43,16 +46,31 @@ row_at ws at zero i h = absurd (omega arith)
 row_at ws at (suc n) zero h = ap (entry_at ws) (omega arith)
 row_at ws at (suc n) (suc i) h = row_at ws (at + entry_words) n i (omega arith) ∙ ap (entry_at ws) (omega arith)
 
--- Words set to 0 from a place on: one more, and none left.
-module _ (ws : List ℕ) (i : ℕ) where
-  -- One word more set to 0.
-  pub clears : (n : ℕ) → i < n → sets (set ws i 0) (i + 1) (replicate (n - (i + 1)) 0) ≡ sets ws i (replicate (n - i) 0)
-  clears n h =
-      let one : n - i ≡ suc (n - (i + 1)) = omega arith in
-      rw (one, add-one)
+-- Words in threes are entries.
+pub rows_taken :
+    (ws : List ℕ) (at n k : ℕ)
+    → k ≤ n
+    → map row_entry (take k (first_chunks entry_words n (drop at ws))) ≡ entries_from ws at k
+unfolding entries_from entry_at
+rows_taken ws at n zero h = refl
+rows_taken ws at zero (suc k) h = absurd (omega arith)
+rows_taken ws at (suc n) (suc k) h =
+    let l : List ℕ = drop at ws in
+    let a : get_or (take entry_words l) 0 0 ≡ get_or ws at 0 = rw (get_or-take 3 l 0 0 (lit< tt), get_or-drop at ws 0 0, add-zero) in
+    let b : get_or (take entry_words l) 1 0 ≡ get_or ws (at + 1) 0 = rw (get_or-take 3 l 1 0 (lit< tt), get_or-drop at ws 1 0) in
+    let d : get_or (take entry_words l) 2 0 ≡ get_or ws (at + 2) 0 = rw (get_or-take 3 l 2 0 (lit< tt), get_or-drop at ws 2 0) in
+    let e : map row_entry (take k (first_chunks entry_words n (drop entry_words l))) ≡ entries_from ws (at + entry_words) k =
+    ap (λ (m : List ℕ). map row_entry (take k (first_chunks entry_words n m))) (drop-drop entry_words at ws)
+    ∙ rows_taken ws (at + entry_words) n k (omega arith) in
+    ap₂ ◌∷◌ (λ i. entry (a i) (b i) (d i)) e
 
-  -- No word is left to set.
-  pub cleared : (n : ℕ) → n ≤ i → ws ≡ sets ws i (replicate (n - i) 0)
-  cleared n h =
-      let none : n - i ≡ 0 = omega arith in
-      rw none
+-- The same of the words after the header's.
+pub rows_first :
+    (ws s : List ℕ) (rows : List (List ℕ)) (count k : ℕ)
+    → s ≡ drop header_words ws
+    → rows ≡ first_chunks entry_words (length s / entry_words) s
+    → k ≡ min count (length s / entry_words)
+    → map row_entry (take k rows) ≡ entries_from ws header_words (min count ((length ws - header_words) / entry_words))
+rows_first ws s rows count k e f g =
+    rw (f, g, e, length-drop header_words ws)
+    (rows_taken ws header_words ((length ws - header_words) / entry_words) (min count ((length ws - header_words) / entry_words)) (omega arith))

@@ -51,6 +51,10 @@ entry k d o = record { key = k; day = d; offer = o }
 abbrev pub no_entry : Entry
 no_entry = entry 0 0 0
 
+-- the entry of three words
+abbrev pub row_entry : List ℕ → Entry
+row_entry row = entry (get_or row 0 0) (get_or row 1 0) (get_or row 2 0)
+
 -- The entry that starts at a word, and so many of them one after the other.
 unfoldable pub entry_at : List ℕ → ℕ → Entry
 entry_at ws at = entry (get_or ws at 0) (get_or ws (at + 1) 0) (get_or ws (at + 2) 0)

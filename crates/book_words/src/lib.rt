@@ -1,9 +1,13 @@
 // The words of a book (document 01, "The book"): its header and its entries, read and written at any place of any words.
 #![tactic(auto)]
 
-ghost use Rattle.std.specs.Prelude.{◌≡◌, [], ◌∷◌, ◌-◌, length, get_or, replicate};
+ghost use Rattle.std.specs.Prelude.{◌≡◌, List, [], ◌∷◌, map, ◌-◌, ◌/◌, min, length, get_or, drop, replicate, MatchOption};
 ghost use Rattle.std.proofs.lemmas.List.Edits.{sets};
-ghost use Rattle.book_words.specs.Layout.{header_of, words_of_header, entry_at, held};
+ghost use Rattle.std.specs.Iterator.{YieldsFirst, item_count};
+ghost use Rattle.book_words.specs.declared.Entry.{Entry};
+ghost use Rattle.book_words.specs.Layout.{header_words, entry_words, header_of, words_of_header, entry_at, row_entry, entries_from, held};
+
+use std::marker::Model;
 
 pub const HEADER_WORDS: usize = 4;
 
@@ -17,7 +21,7 @@ pub const OFFER_WORD: usize = 2;
 pub const MOST_ENTRIES: usize = 65_535;
 
 // The words before the entries: how many entries there are, the notice period, the last received day and the latest effective day.
-#[derive(Clone, Copy)]
+#[derive(Clone, Copy, PartialEq, Eq)]
 pub struct Header {
     pub count: u64,
     pub period: u64,
@@ -26,30 +30,93 @@ pub struct Header {
 }
 
 // An entry of a book: a code's key, a day, and the offer word of the code from that day on.
-#[derive(Clone, Copy)]
+#[derive(Clone, Copy, PartialEq, Eq)]
 pub struct Entry {
     pub key: u64,
     pub day: u64,
     pub offer: u64,
 }
 
+// The entry of its words.
+impl From<[u64; ENTRY_WORDS]> for Entry {
+    ghost from_gives = { λ words entry. entry ≡ row_entry words };
+
+    fn from([key, day, offer]: [u64; ENTRY_WORDS]) -> Self {
+        Entry { key, day, offer }
+    }
+}
+
+// The words after the header's.
+fn after_header(words: &[u64]) -> &[u64]
+    ensures { result.now ≡ drop header_words words.now }
+{
+    words.get(HEADER_WORDS..).unwrap_or(&[])
+}
+
+// The entries of a book that a walk over them has left, the next first.
+#[derive(Drop)]
+pub struct Entries<'a> {
+    rows: &'a [[u64; ENTRY_WORDS]],
+}
+
+impl<'a> Model for Entries<'a> {
+    ghost Value = { List Entry };
+
+    ghost view = { λ e. map row_entry e.rows.now };
+}
+
+impl<'a> Entries<'a> {
+    // The first entries of a book's words: so many, or as many as there are words for.
+    #[tactic(auto, using(crate::proofs::Rows::rows_first))]
+    pub fn of(words: &'a [u64], count: usize) -> Self
+        ensures { result ≡ entries_from words.now header_words (min count ((length words.now - header_words) / entry_words)) }
+    {
+        let (rows, _) = after_header(words).as_chunks();
+        Entries {
+            rows: &rows[..count.min(rows.len())],
+        }
+    }
+
+    // The next, which stays.
+    pub fn peek(&self) -> Option<Entry>
+        ensures { MatchOption result (self.now ≡ []) (λ e. self.now ≡ e ∷ drop 1 self.now) }
+    {
+        self.rows.first().copied().map(Entry::from)
+    }
+}
+
+impl<'a> Iterator for Entries<'a> {
+    type Item = Entry;
+
+    ghost next_gives = { YieldsFirst (λ entries. entries) };
+
+    ghost remaining = { item_count (λ entries. entries) };
+
+    fn next(&mut self) -> Option<Entry> {
+        let (row, rows) = self.rows.split_first()?;
+        self.rows = rows;
+        Some(Entry::from(*row))
+    }
+}
+
 // The word at a place, 0 past the end.
 fn word_at(words: &[u64], at: usize) -> u64
     ensures { result ≡ get_or words.now at 0 }
 {
-    if at < words.len() { words[at] } else { 0 }
+    words.get(at).copied().unwrap_or(0)
 }
 
 // The entry that starts at a place; words past the end count as 0. A place of 32 bits has one test and no end of its own.
+#[tactic(auto, unfolding(crate::specs::Layout::entry_at))]
 pub fn entry_at(words: &[u64], at: u32) -> Entry
     ensures { result ≡ entry_at words.now at }
 {
     let from = at as usize;
-    if from + ENTRY_WORDS <= words.len() {
+    if let Some([key, day, offer]) = words.get(from..from + ENTRY_WORDS) {
         return Entry {
-            key: words[from],
-            day: words[from + DAY_WORD],
-            offer: words[from + OFFER_WORD],
+            key: *key,
+            day: *day,
+            offer: *offer,
         };
     }
     Entry {
@@ -63,6 +130,7 @@ pub fn entry_at(words: &[u64], at: u32) -> Entry
 fn put_word(words: &mut [u64], at: usize, word: u64)
     ensures { words.new ≡ sets words.old at (word ∷ []) }
 {
+    // `get_mut` of a slice tells a proof the slice's length alone.
     if at < words.len() {
         words[at] = word;
     }
@@ -91,26 +159,19 @@ pub fn write_header(words: &mut [u64], h: Header)
 }
 
 // Sets every word from a place on to 0.
+#[tactic(auto, using(slice_laws::proofs::Slices::written_over))]
 pub fn clear(words: &mut [u64], from: usize)
     ensures { words.new ≡ sets words.old from (replicate (length words.old - from) 0) }
 {
-    let mut i = from;
-    while i < words.len() {
-        words[i] = 0;
-        i += 1;
+    if from < words.len() {
+        words[from..].fill(0);
     }
 }
 
 // How many entries a book of so many words can hold.
+#[tactic(auto, unfolding(crate::specs::Layout::held))]
 pub fn entries_held(len: usize) -> usize
     ensures { result ≡ held len }
 {
-    if len < HEADER_WORDS {
-        return 0;
-    }
-    let n = (len - HEADER_WORDS) / ENTRY_WORDS;
-    if MOST_ENTRIES < n {
-        return MOST_ENTRIES;
-    }
-    n
+    (len.saturating_sub(HEADER_WORDS) / ENTRY_WORDS).min(MOST_ENTRIES)
 }

@@ -7,7 +7,7 @@ ghost use Rattle.calendar.specs.Time.{is_day, is_received_day, is_moment, day_of
 const SECONDS_PER_DAY: u64 = 86_400;
 
 // A day, counted from day 0. Never taken for a moment.
-#[derive(Clone, Copy)]
+#[derive(Clone, Copy, PartialEq, Eq, PartialOrd, Ord)]
 pub struct Day(pub u64);
 
 impl Day {
@@ -18,18 +18,18 @@ impl Day {
     pub fn in_range(self) -> bool
         ensures { result ≡ is_day self }
     {
-        self.0 <= Day::LAST.0
+        self <= Day::LAST
     }
 
     pub fn can_be_received(self) -> bool
         ensures { result ≡ is_received_day self }
     {
-        self.0 <= Day::LAST_RECEIVED.0
+        self <= Day::LAST_RECEIVED
     }
 }
 
 // A moment in seconds, day 0 beginning at moment 0. Never taken for a day.
-#[derive(Clone, Copy)]
+#[derive(Clone, Copy, PartialEq, Eq, PartialOrd, Ord)]
 pub struct Moment(pub u64);
 
 impl Moment {
@@ -39,7 +39,7 @@ impl Moment {
     pub fn in_range(self) -> bool
         ensures { result ≡ is_moment self }
     {
-        self.0 < Moment::END.0
+        self < Moment::END
     }
 
     pub fn day(self) -> Day

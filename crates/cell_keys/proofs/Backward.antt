@@ -1,24 +1,27 @@
 -- A cell's entries from the last to the first: they name the same keys. Assumes nothing.
 -- Two rising lists that hold the same are the same.
-use mathlib.Core.Path.{◌≡◌, refl, ap, ap₂, sym, ◌∙◌}
+use mathlib.Core.Path.{◌≡◌, refl, ap, ap₂, sym, subst, ◌∙◌}
 use mathlib.Core.Bool.{Bool, true, false, false≢true, cond, ◌||◌}
-use mathlib.Core.List.{List, [], ◌∷◌, ◌++◌}
+use mathlib.Core.List.{List, [], ◌∷◌, ◌++◌, append_assoc, append-nil}
 use Prim.Native.Nat.{ℕ, ◌≤◌}
 use native.Mathlib.Omega.{arith}
-use borrow.Author.Tests.{eq-eqb, ne_eqb, ltb-false, eqb-true, eqb-false}
-use lib.Dec.{eqb, ltb}
-use lib.ListN.{length}
+use borrow.Author.Tests.{eq-eqb, ne_eqb, ltb-false}
+use lib.Dec.{ltb}
+use lib.ListN.{length, take}
+use lib.Seq.{sets, length-sets}
 use Rattle.dial_code.proofs.Tests.{below, equal, above, order}
 use Rattle.code_entry.specs.Range.{range_keys}
 use Rattle.code_entry.specs.declared.CodeRange.{CodeRange}
-use Rattle.code_entry.specs.declared.Named.{Named}
-use Rattle.code_entry.specs.declared.Named.TheVariants.{Codes, Refused}
-use Rattle.code_cell.specs.Cell.{insert_all, Keys, NoKeys, keys_named, refusal_of, keys_of}
-use Rattle.code_cell.specs.Count.{good_ranges, first_refusal, all_keys}
+use Rattle.code_cell.specs.Cell.{insert_all}
+use Rattle.code_cell.specs.Count.{good_ranges, outcome, all_keys}
 use Rattle.code_cell.specs.Rising.{Above, Rising, holds}
 use Rattle.code_cell.proofs.Inserts.{all_rising, all_longer, above_less}
 use Rattle.code_cell.proofs.Members.{holds_all, above_out, or_false}
-use Rattle.code_cell.proofs.Decisions.{AllCaused, decision, decided}
+use Rattle.cell_keys.proofs.Writes.{take_front, sets_over}
+use Rattle.refusal.specs.declared.Refusal.TheVariants.{KeysTooMany}
+use Rattle.refusal.specs.Steps.{◌>>=◌}
+use Rattle.refusal.specs.declared.Refusal.{Refusal}
+use Rattle.std.proofs.Common.{Result, Ok, Err}
 
 first_held : (x : ℕ) (xs : List ℕ) → holds x (x ∷ xs) ≡ true
 first_held x xs = rw (eq-eqb x x refl)
@@ -91,50 +94,111 @@ either_way rs =
     (λ k. back_holds rs k ∙ sym (forth_holds rs [] k ∙ or_false (any_holds rs k)))
 
 -- A cell that is not refused has no refused entry, and its keys are those of its ranges.
-abbrev pub AllGood : List Named → Type 0
+abbrev pub AllGood : List (Result CodeRange Refusal) → Type 0
 AllGood [] = Unit
-AllGood (Codes r ∷ ns) = AllGood ns
-AllGood (Refused e ∷ ns) = ⊥
+AllGood (Ok r ∷ ns) = AllGood ns
+AllGood (Err e ∷ ns) = ⊥
 
-all_good : (ns : List Named) → AllCaused ns → first_refusal ns ≡ 0 → AllGood ns
-unfolding first_refusal
-all_good [] a e = tt
-all_good (Codes r ∷ ns) a e = all_good ns a.1 e
-all_good (Refused q ∷ ns) a e = omega (arith, a.0)
+pub good_front : (ms ns : List (Result CodeRange Refusal)) → AllGood (ms ++ ns) → AllGood ns
+good_front [] ns a = a
+good_front (Ok r ∷ ms) ns a = good_front ms ns a
+good_front (Err q ∷ ms) ns a = absurd a
 
-pub good_suffix : (ms ns : List Named) → AllGood (ms ++ ns) → AllGood ns
-good_suffix [] ns a = a
-good_suffix (Codes r ∷ ms) ns a = good_suffix ms ns a
-good_suffix (Refused q ∷ ms) ns a = absurd a
-
-pub suffix_shorter : (ms ns : List Named) → AllGood (ms ++ ns) → length (back_keys (good_ranges ns)) ≤ length (back_keys (good_ranges (ms ++ ns)))
+pub suffix_shorter : (ms ns : List (Result CodeRange Refusal)) → AllGood (ms ++ ns) → length (back_keys (good_ranges ns)) ≤ length (back_keys (good_ranges (ms ++ ns)))
 unfolding good_ranges
 suffix_shorter [] ns a = omega arith
-suffix_shorter (Codes r ∷ ms) ns a =
+suffix_shorter (Ok r ∷ ms) ns a =
     omega (arith, suffix_shorter ms ns a, all_longer (range_keys r) (back_keys (good_ranges (ms ++ ns))))
-suffix_shorter (Refused q ∷ ms) ns a = absurd a
+suffix_shorter (Err q ∷ ms) ns a = absurd a
 
-pub record Good (room : ℕ) (ns : List Named) : Type 0 where
-  pub all : AllGood ns
-  pub fits : length (back_keys (good_ranges ns)) ≤ room
-  pub keys : keys_of (keys_named room [] ns) ≡ back_keys (good_ranges ns)
+all_good : (ns : List (Result CodeRange Refusal)) → outcome ns ≡ Ok tt → AllGood ns
+unfolding outcome
+all_good [] e = tt
+all_good (Ok r ∷ ns) e = all_good ns e
+all_good (Err q ∷ ns) e = cc
 
-pub good : (room : ℕ) (ns : List Named) → AllCaused ns → refusal_of (keys_named room [] ns) ≡ 0 → Good room ns
-good room ns a e =
-    go (ltb room (length (all_keys [] (good_ranges ns)))) refl (eqb (first_refusal ns) 0) refl (sym (ap refusal_of d) ∙ e)
-  where
-    d : keys_named room [] ns ≡ decision room (all_keys [] (good_ranges ns)) (first_refusal ns)
-    d = decided room [] ns (omega arith) a
+-- The keys of the entries that are read, from the last on, at the front of the slice.
+pub record Backed (k₀ : List ℕ) (all left : List (Result CodeRange Refusal)) (n : ℕ) (k : List ℕ) : Type 0 where
+  pub done : List (Result CodeRange Refusal)
+  pub parts : all ≡ left ++ done
+  pub counted : n ≡ length (back_keys (good_ranges done))
+  pub words : k ≡ sets k₀ 0 (back_keys (good_ranges done))
 
-    go : (t : Bool) → ltb room (length (all_keys [] (good_ranges ns))) ≡ t
-        → (u : Bool) → eqb (first_refusal ns) 0 ≡ u
-        → refusal_of (cond t (NoKeys 52) (cond u (Keys (all_keys [] (good_ranges ns))) (NoKeys (first_refusal ns)))) ≡ 0
-        → Good room ns
-    go true f u g z = absurd (omega arith)
-    go false f true g z =
-        record {
-          all = all_good ns a (eqb-true (first_refusal ns) 0 g);
-          fits = omega (arith, ap length (either_way (good_ranges ns)), ltb-false room (length (all_keys [] (good_ranges ns))) f);
-          keys = ap keys_of d ∙ rw (f, g) (sym (either_way (good_ranges ns)));
-        }
-    go false f false g z = absurd (eqb-false (first_refusal ns) 0 g z)
+module _ (k₀ : List ℕ) (all : List (Result CodeRange Refusal)) where
+  pub begun : (left : List (Result CodeRange Refusal)) → left ≡ all → Backed k₀ all left 0 k₀
+  unfolding good_ranges
+  begun left e = record { done = []; parts = sym e ∙ sym (append-nil left); counted = refl; words = refl }
+
+  module _ (n : ℕ) (k : List ℕ) where
+    pub written : Backed k₀ all [] n k → (n ≡ length (all_keys [] (good_ranges all))) × (k ≡ sets k₀ 0 (all_keys [] (good_ranges all)))
+    written b =
+        let q : back_keys (good_ranges b.done) ≡ all_keys [] (good_ranges all) =
+        ap (λ (x : List (Result CodeRange Refusal)). back_keys (good_ranges x)) (sym b.parts) ∙ either_way (good_ranges all) in
+        (b.counted ∙ ap length q, b.words ∙ ap (sets k₀ 0) q)
+
+    module _ (left rest : List (Result CodeRange Refusal)) (none : outcome all ≡ Ok tt) (b : Backed k₀ all left n k) where
+      pub never_refused : (q : Refusal) → left ≡ rest ++ (Err q ∷ []) → ⊥
+      never_refused q e =
+          good_front rest (Err q ∷ b.done)
+          (subst AllGood (b.parts ∙ ap (λ (x : List (Result CodeRange Refusal)). x ++ b.done) e ∙ append_assoc rest (Err q ∷ []) b.done) (all_good all none))
+
+      module _ (r : CodeRange) (fits : length (all_keys [] (good_ranges all)) ≤ length k₀) (e : left ≡ rest ++ (Ok r ∷ [])) where
+        parts_next : all ≡ rest ++ (Ok r ∷ b.done)
+        parts_next = b.parts ∙ ap (λ (x : List (Result CodeRange Refusal)). x ++ b.done) e ∙ append_assoc rest (Ok r ∷ []) b.done
+
+        good_next : AllGood (rest ++ (Ok r ∷ b.done))
+        good_next = subst AllGood parts_next (all_good all none)
+
+        abbrev so_far : List ℕ
+        so_far = back_keys (good_ranges b.done)
+
+        enough_room : length (back_keys (good_ranges (Ok r ∷ b.done))) ≤ length k₀
+        enough_room =
+            omega (
+              arith,
+              suffix_shorter rest (Ok r ∷ b.done) good_next,
+              ap (λ (x : List (Result CodeRange Refusal)). length (back_keys (good_ranges x))) parts_next,
+              ap length (either_way (good_ranges all)),
+              fits,
+            )
+
+        grows : back_keys (good_ranges (Ok r ∷ b.done)) ≡ insert_all (range_keys r) so_far
+        unfolding good_ranges
+        grows = refl
+
+        room : length so_far ≤ length k₀
+        room = omega (arith, enough_room, ap length grows, all_longer (range_keys r) so_far)
+
+        -- The words that stand there are the keys so far.
+        front : take n k ≡ so_far
+        front = ap (take n) b.words ∙ take_front so_far k₀ n b.counted room
+
+        long : length k ≡ length k₀
+        long = ap length b.words ∙ length-sets k₀ 0 so_far
+
+        pub front_rising : Rising (take n k)
+        front_rising = subst Rising (sym front) (back_rising (good_ranges b.done))
+
+        same_keys : insert_all (range_keys r) (take n k) ≡ back_keys (good_ranges (Ok r ∷ b.done))
+        same_keys = ap (insert_all (range_keys r)) front ∙ sym grows
+
+        pub enough : (n ≤ length k) × (length (insert_all (range_keys r) (take n k)) ≤ length k)
+        enough = (omega (arith, b.counted, room, long), omega (arith, ap length same_keys, long, enough_room))
+
+        -- The slice with the entry's keys.
+        pub on : (n' : ℕ) (k' : List ℕ)
+            → n' ≡ length (insert_all (range_keys r) (take n k))
+            → k' ≡ sets k 0 (insert_all (range_keys r) (take n k))
+            → Backed k₀ all rest n' k'
+        on n' k' f h =
+            record {
+              done = Ok r ∷ b.done;
+              parts = parts_next;
+              counted = f ∙ ap length same_keys;
+              words =
+                  h
+                  ∙ ap (sets k 0) same_keys
+                  ∙ ap (λ (x : List ℕ). sets x 0 (back_keys (good_ranges (Ok r ∷ b.done)))) b.words
+                  ∙ sets_over so_far (back_keys (good_ranges (Ok r ∷ b.done))) k₀
+                  (omega (arith, ap length grows, all_longer (range_keys r) so_far)) enough_room;
+            }

@@ -1,10 +1,8 @@
--- The laws of the keys' writing.
-
+-- Laws of writing keys.
 pub mod Steps
 pub mod Merges
 pub mod Turns
 pub mod Puts
-pub mod Writes
 pub mod Ones
+pub mod Writes
 pub mod Backward
-pub mod Starts

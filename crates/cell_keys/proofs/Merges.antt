@@ -5,6 +5,8 @@ use mathlib.Core.List.{List, [], ◌∷◌, ◌++◌}
 use Prim.Native.Nat.{ℕ, zero, suc, ◌+◌, ◌-◌, ◌≤◌, ◌<◌}
 use native.Mathlib.Omega.{arith}
 use borrow.Author.Tests.{eq-eqb, ne_eqb}
+use lib.Dec.{eqb}
+use Rattle.std.specs.Int.{from_bool}
 use lib.ListN.{length, get_or, take, set, take-append-drop}
 use lib.Seq.{sets, sets-eq, set_comm, take-suc, length-take-le}
 use Rattle.dial_code.proofs.Tests.{below, equal, above, order}
@@ -13,17 +15,19 @@ use Rattle.code_cell.specs.Rising.{Below, Rising}
 use Rattle.code_cell.proofs.Inserts.{all_before, all_longer, all_none, all_into_none, last_new, last_both, below_more, below_append, rising_last}
 use Rattle.code_entry.specs.Range.{keys_from}
 use Rattle.code_cell.proofs.RangeKeys.{last_key_law, no_keys, keys_below, keys_rising}
-use Rattle.cell_keys.specs.Writing.{key_at, Run, same}
+use Rattle.cell_keys.specs.Writing.{key_at, Run}
 
 abbrev pub together : ℕ → ℕ → ℕ → ℕ → List ℕ → List ℕ
 together d f q p l = insert_all (keys_from d f q) (take p l)
 
+-- 1 for two numbers that are the same, else 0
+abbrev pub same : ℕ → ℕ → ℕ
+same x k = from_bool (eqb x k)
+
 pub same_so : (x k : ℕ) → x ≡ k → same x k ≡ 1
-unfolding same
 same_so x k e = rw (eq-eqb x k e)
 
 pub same_not : (x k : ℕ) → (x ≡ k → ⊥) → same x k ≡ 0
-unfolding same
 same_not x k n = rw (ne_eqb x k n)
 
 -- A run of fewer codes.

@@ -1,17 +1,12 @@
 -- From the key of a code to that of the next: one 9 after the other goes to 0. Assumes nothing.
--- A code of a run has its key.
 use mathlib.Core.Path.{◌≡◌}
 use Prim.Native.Nat.{ℕ, ◌+◌, ◌-◌, ◌*◌, ◌/◌, ◌%◌, ◌^◌, ◌≤◌, ◌<◌}
 use native.Mathlib.Nat.{one-le-pow}
 use native.Mathlib.Omega.{arith}
 use lib.Dec.{lit<}
-use Rattle.dial_code.specs.Key.{key_or_zero}
-use Rattle.dial_code.proofs.CountedKeys.{next_weight, weight_most, key_so}
+use Rattle.dial_code.proofs.CountedKeys.{next_weight, weight_most}
 use Rattle.code_cell.proofs.RangeKeys.{no_carry, carry, carried}
 use Rattle.cell_keys.specs.Writing.{key_at, Run}
-
-pub keyed : (k v : ℕ) → Run k v 1 → key_or_zero k v ≡ key_at k v
-keyed k v r = key_so k v r.0 r.1 (omega (arith, r.3))
 
 -- The code at v with `less` taken off, as far from the next as the code asked about: k digits of it are left.
 pub record Carries (digits value k v w less : ℕ) : Type 0 where

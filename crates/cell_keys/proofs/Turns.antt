@@ -2,11 +2,13 @@
 -- is asked for. Assumes nothing.
 -- Keys and values of a run fit a word.
 use mathlib.Core.Path.{◌≡◌, ap, sym, subst, ◌∙◌}
-use mathlib.Core.Bool.{Bool, true, false, cond}
+use mathlib.Core.Bool.{Bool, true, false}
 use mathlib.Core.List.{List, [], ◌∷◌, ◌++◌}
 use Prim.Native.Nat.{ℕ, suc, ◌+◌, ◌-◌, ◌^◌, ◌≤◌, ◌<◌}
 use native.Mathlib.Nat.{pow-le-pow_right}
 use native.Mathlib.Omega.{arith}
+use native.Mathlib.Numerals.{add-one}
+use Rattle.std.specs.Int.{from_bool}
 use lib.Dec.{eqb, lit<}
 use lib.ListN.{length, get_or, take, set, length-set}
 use lib.Seq.{sets, take-set-le, length-take-le}
@@ -17,8 +19,8 @@ use Rattle.code_cell.specs.Rising.{Rising}
 use Rattle.code_cell.proofs.Inserts.{length_last}
 use Rattle.code_entry.specs.Range.{keys_from}
 use Rattle.code_cell.proofs.RangeKeys.{first_key_law, no_keys, length_keys}
-use Rattle.cell_keys.specs.Writing.{key_at, Run, same}
-use Rattle.cell_keys.proofs.Merges.{together, old_last, new_last, only_new, only_old, longer, sets_last, sets_own}
+use Rattle.cell_keys.specs.Writing.{key_at, Run}
+use Rattle.cell_keys.proofs.Merges.{together, same, old_last, new_last, only_new, only_old, longer, sets_last, sets_own}
 
 pub key_most : (d v : ℕ) → d ≤ 15 → key_at d v < 11 ^ 15
 unfolding key
@@ -29,51 +31,35 @@ value_most d v n r =
     let p : 10 ^ d ≤ 10 ^ 15 = pow-le-pow_right (lit< tt) {i = d} {j = 15} r.1 in
     omega (arith, r.3)
 
--- A run's keys written from a place on: `left` of them from the value v and the place i on are still to be.
-pub record Fills (d f n at : ℕ) (l₀ : List ℕ) (k v left i : ℕ) (l : List ℕ) : Type 0 where
-  pub run : Run d v left
-  pub keyed : k ≡ key_at d v
-  pub room : i + left ≤ length l
-  pub long : length l ≡ length l₀
-  pub fills : sets l i (keys_from d v left) ≡ sets l₀ at (keys_from d f n)
-
 split : (d v left : ℕ) → 1 ≤ left → keys_from d v left ≡ key_at d v ∷ keys_from d (v + 1) (left - 1)
 split d v left h =
     let g : suc (left - 1) ≡ left = omega arith in
     rw g at (first_key_law d v (left - 1))
 
-pub fill_turn :
-    (d f n at : ℕ) (l₀ : List ℕ) (k v left i s : ℕ) (l : List ℕ)
-    → Fills d f n at l₀ k v left i l
-    → 1 < left
-    → key_at d v + s ≡ key_at d (v + 1)
-    → Fills d f n at l₀ (k + s) (v + 1) (left - 1) (i + 1) (set l i k)
-fill_turn d f n at l₀ k v left i s l c h e =
-    let r = c.run in
-    record {
-      run = (r.0, r.1, omega arith, omega (arith, r.3));
-      keyed = omega (arith, c.keyed, e);
-      room = omega (arith, c.room, length-set l i k);
-      long = length-set l i k ∙ c.long;
-      fills =
-          ap (λ (j : ℕ). sets (set l i k) j (keys_from d (v + 1) (left - 1))) (omega arith)
-          ∙ ap (λ (x : ℕ). sets (set l i x) (suc i) (keys_from d (v + 1) (left - 1))) c.keyed
-          ∙ ap (sets l i) (sym (split d v left r.2))
-          ∙ c.fills;
-    }
+-- A run's keys written from a place on, the first i of them: the others are still to be.
+module _ (d f n at : ℕ) (l₀ : List ℕ) where
+  abbrev pub Filled : ℕ → List ℕ → Type 0
+  Filled i l = (length l ≡ length l₀) × (sets l (at + i) (keys_from d (f + i) (n - i)) ≡ sets l₀ at (keys_from d f n))
 
-pub fill_end :
-    (d f n at : ℕ) (l₀ : List ℕ) (k v left i : ℕ) (l : List ℕ)
-    → Fills d f n at l₀ k v left i l
-    → left ≤ 1
-    → set l i k ≡ sets l₀ at (keys_from d f n)
-fill_end d f n at l₀ k v left i l c h =
-    let z : left - 1 ≡ 0 = omega arith in
-    let r = c.run in
-    ap (set l i) c.keyed
-    ∙ ap (λ (ks : List ℕ). sets l i (key_at d v ∷ ks)) (sym (no_keys d (v + 1)))
-    ∙ ap (sets l i) (sym (rw z at (split d v left r.2)))
-    ∙ c.fills
+  pub fill_first : 1 ≤ n → Filled 1 (set l₀ at (key_at d f))
+  fill_first h = (
+    length-set l₀ at (key_at d f),
+    ap (λ (j : ℕ). sets (set l₀ at (key_at d f)) j (keys_from d (f + 1) (n - 1))) (add-one at) ∙ ap (sets l₀ at) (sym (split d f n h)),
+  )
+
+  pub fill_turn : (i : ℕ) (l : List ℕ) → i < n → Filled i l → Filled (i + 1) (set l (at + i) (key_at d (f + i)))
+  fill_turn i l h c =
+      let e : at + (i + 1) ≡ suc (at + i) = omega arith in
+      let v : f + (i + 1) ≡ f + i + 1 = omega arith in
+      let m : n - (i + 1) ≡ n - i - 1 = omega arith in (
+        length-set l (at + i) (key_at d (f + i)) ∙ c.0,
+        rw (e, v, m) (ap (sets l (at + i)) (sym (split d (f + i) (n - i) (omega arith))) ∙ c.1),
+      )
+
+  pub fill_end : (i : ℕ) (l : List ℕ) → n ≤ i → Filled i l → l ≡ sets l₀ at (keys_from d f n)
+  fill_end i l h c =
+      let z : n - i ≡ 0 = omega arith in
+      rw (z, no_keys d (f + i)) at c.1
 
 -- A run's keys and a slice's counted together: c of them are counted, p words and q codes are left.
 pub record Counts (d f n old : ℕ) (l : List ℕ) (k q p c : ℕ) : Type 0 where
@@ -96,10 +82,9 @@ step_back d f q k s e z g =
     e ∙ sym (rw b at g)
 
 pub same_few : (x k t : ℕ) → t ≡ same x k → t ≤ 1
-unfolding same
 same_few x k t e = go (eqb x k) e
   where
-    go : (b : Bool) → t ≡ cond b 1 0 → t ≤ 1
+    go : (b : Bool) → t ≡ from_bool b → t ≤ 1
     go true g = omega arith
     go false g = omega arith
 
@@ -159,6 +144,7 @@ pub record Merging (d f n old : ℕ) (l₀ : List ℕ) (k q p end : ℕ) (l : Li
   pub run : Run d f q
   pub keyed : k ≡ key_at d (f + (q - 1))
   pub few : p ≤ length l
+  pub less : q ≤ n
   pub long : length l ≡ length l₀
   pub rising : Rising (take p l)
   pub ends : end ≡ length (together d f q p l)
@@ -197,6 +183,7 @@ module _ (d f n old : ℕ) (l₀ : List ℕ) (k q p end x : ℕ) (l : List ℕ) 
         run = i.run;
         keyed = i.keyed;
         few = omega (arith, b, length-set l (end - 1) x);
+        less = i.less;
         long = length-set l (end - 1) x ∙ i.long;
         rising = subst Rising (sym w) t.1;
         ends =
@@ -225,6 +212,7 @@ module _ (d f n old : ℕ) (l₀ : List ℕ) (k q p end x : ℕ) (l : List ℕ) 
           run = (r.0, r.1, omega arith, omega (arith, r.3));
           keyed = omega (arith, step_back d f q k s i.keyed z g);
           few = omega (arith, in_reach, length-set l (end - 1) k);
+          less = omega (arith, i.less);
           long = length-set l (end - 1) k ∙ i.long;
           rising = subst Rising (sym w) last_one.1;
           ends =

@@ -1,17 +1,15 @@
--- The answers of the calls over cells.
-use Rattle.std.specs.Prelude.{ℕ, List, [], ◌∷◌, length}
+-- The answer to the call over one entry of a cell.
+use Rattle.std.specs.Prelude.{ℕ, List, length, Result, Ok, Err}
+use Rattle.std.specs.Borrow.{Bor}
 use Rattle.code_entry.specs.Entry.{rest_of}
-use Rattle.code_cell.specs.Cell.{CellKeys, Keys, NoKeys, refusal_of, keys_of}
-use Rattle.cell_keys.specs.declared.CellCount.{CellCount}
+use Rattle.refusal.specs.declared.Refusal.{Refusal}
 
--- Refusal number or 0, and how many keys there are; the same as two words.
-abbrev pub count_of : CellKeys → CellCount
-count_of x = record { refusal = refusal_of x; count = length (keys_of x) }
+-- How many keys there are, and the part of the cell still to be read: from the entry's comma on.
+abbrev pub entry_read : Result (List ℕ) Refusal → List ℕ → Result (ℕ × List ℕ) Refusal
+entry_read (Ok l) s = Ok (length l, rest_of s)
+entry_read (Err e) s = Err e
 
-abbrev pub count_words : CellKeys → List ℕ
-count_words x = refusal_of x ∷ length (keys_of x) ∷ []
-
--- The part of a cell still to be read: from the entry's comma on, or all of it if the entry is refused.
-abbrev pub rest_after : CellKeys → List ℕ → List ℕ
-rest_after (Keys l) s = rest_of s
-rest_after (NoKeys e) s = s
+-- the same as it is returned, with the bytes of that part
+abbrev pub seen : Result (ℕ × Bor (List ℕ)) Refusal → Result (ℕ × List ℕ) Refusal
+seen (Ok p) = Ok (p.0, p.1.now)
+seen (Err e) = Err e

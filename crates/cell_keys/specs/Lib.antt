@@ -1,4 +1,3 @@
--- The answers of the calls over cells. Writing and Places are models, of how keys are written: no public contract cites them.
+-- The answer to the call over one entry. Writing is a model, of how keys are written: no public contract cites it.
 pub mod Answers
 pub mod Writing
-pub mod Places

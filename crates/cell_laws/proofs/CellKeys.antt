@@ -6,27 +6,28 @@ use Prim.Native.Nat.{ℕ}
 use native.Mathlib.Omega.{arith}
 use lib.Dec.{ltb}
 use lib.ListN.{length}
-use Rattle.refusal.specs.Refusal.{keys_too_many}
 use Rattle.code_entry.specs.Range.{range_keys}
+use Rattle.code_entry.specs.declared.CodeRange.{CodeRange}
 use Rattle.code_entry.specs.Entry.{entry_of, entry_codes}
-use Rattle.code_entry.specs.declared.Named.{Named}
-use Rattle.code_entry.specs.declared.Named.TheVariants.{Codes, Refused}
-use Rattle.code_cell.specs.Cell.{insert_all, CellKeys, Keys, NoKeys, keys_named, names_of, cell_keys, entry_keys, keys_of}
+use Rattle.code_cell.specs.Cell.{insert_all, keys_named, names_of, cell_keys, entry_keys, keys_of}
 use Rattle.code_cell.specs.Rising.{Rising, holds}
 use Rattle.code_cell.proofs.Inserts.{all_rising}
 use Rattle.code_cell.proofs.Members.{holds_all, or_false}
 use Rattle.cell_laws.specs.Names.{named}
+use Rattle.refusal.specs.declared.Refusal.TheVariants.{KeysTooMany}
+use Rattle.refusal.specs.declared.Refusal.{Refusal}
+use Rattle.std.proofs.Common.{Result, Ok, Err}
 
-kept_rises : (t : Bool) (x : CellKeys) → Rising (keys_of x) → Rising (keys_of (cond t (NoKeys keys_too_many) x))
+kept_rises : (t : Bool) (x : Result (List ℕ) Refusal) → Rising (keys_of x) → Rising (keys_of (cond t (Err KeysTooMany) x))
 kept_rises true x r = tt
 kept_rises false x r = r
 
 -- What entries name, put into rising keys.
-pub named_rise : (room : ℕ) (l : List ℕ) (ns : List Named) → Rising l → Rising (keys_of (keys_named room l ns))
+pub named_rise : (room : ℕ) (l : List ℕ) (ns : List (Result CodeRange Refusal)) → Rising l → Rising (keys_of (keys_named room l ns))
 unfolding keys_named
 named_rise room l [] r = r
-named_rise room l (Refused e ∷ ns) r = tt
-named_rise room l (Codes q ∷ ns) r =
+named_rise room l (Err e ∷ ns) r = tt
+named_rise room l (Ok q ∷ ns) r =
     let m = insert_all (range_keys q) l in
     kept_rises (ltb room (length m)) (keys_named room m ns) (named_rise room m ns (all_rising (range_keys q) l r))
 
@@ -46,23 +47,23 @@ or_turn false b c = refl
 
 -- A key is among them where it was before, or where some entry names it.
 named_holds :
-    (room : ℕ) (l : List ℕ) (ns : List Named) (ks : List ℕ) → keys_named room l ns ≡ Keys ks
+    (room : ℕ) (l : List ℕ) (ns : List (Result CodeRange Refusal)) (ks : List ℕ) → keys_named room l ns ≡ Ok ks
     → (k : ℕ) → holds k ks ≡ (holds k l || named ns k)
 unfolding keys_named named
 named_holds room l [] ks e k = let f : l ≡ ks = cc in ap (holds k) (sym f) ∙ sym (or_false (holds k l))
-named_holds room l (Refused q ∷ ns) ks e k = let z : ◌≡◌ {A = ℕ} 0 1 = cc in absurd (omega arith)
-named_holds room l (Codes r ∷ ns) ks e k =
+named_holds room l (Err q ∷ ns) ks e k = cc
+named_holds room l (Ok r ∷ ns) ks e k =
     go (ltb room (length (insert_all (range_keys r) l))) e (λ f. named_holds room (insert_all (range_keys r) l) ns ks f k)
     ∙ ap (λ (b : Bool). b || named ns k) (holds_all k (range_keys r) l)
     ∙ or_turn (holds k (range_keys r)) (holds k l) (named ns k)
   where
-    go : {x : CellKeys} {a b : Bool} (t : Bool) → cond t (NoKeys keys_too_many) x ≡ Keys ks → (x ≡ Keys ks → a ≡ b) → a ≡ b
-    go true e i = let z : ◌≡◌ {A = ℕ} 0 1 = cc in absurd (omega arith)
+    go : {x : Result (List ℕ) Refusal} {a b : Bool} (t : Bool) → cond t (Err KeysTooMany) x ≡ Ok ks → (x ≡ Ok ks → a ≡ b) → a ≡ b
+    go true e i = absurd (cc)
     go false e i = i e
 
 -- Of a cell: exactly if some entry names its code.
 pub cell_holds :
-    (c s : List ℕ) (room : ℕ) (ks : List ℕ) → cell_keys c s room ≡ Keys ks
+    (c s : List ℕ) (room : ℕ) (ks : List ℕ) → cell_keys c s room ≡ Ok ks
     → (k : ℕ) → holds k ks ≡ named (names_of c s) k
 unfolding cell_keys
 cell_holds c s room ks e k = named_holds room [] (names_of c s) ks e k

@@ -5,17 +5,18 @@ use mathlib.Core.List.{List, [], ◌∷◌, ◌++◌, map, map-append}
 use Prim.Native.Nat.{ℕ}
 use borrow.Author.Tests.{ne_eqb, eqb-true}
 use lib.Dec.{eqb}
-use Rattle.refusal.specs.Refusal.{entry_not_allowed}
 use Rattle.dial_code.specs.Digits.{every, is_ascii, digit_of}
 use Rattle.dial_code.proofs.Tests.{both, and_left_true, and_right_false}
 use Rattle.allowed_code.specs.Code.{is_code}
 use Rattle.code_entry.specs.Entry.{blank, comma, dash, is_blank, leading, after, Typed, Single, Joined, Stray, typed_after, typed}
 use Rattle.code_entry.specs.Entry.{code_of, is_some, is_typed, one_code, code_range, typed_codes, entry_codes}
-use Rattle.code_entry.specs.declared.Named.{Named}
-use Rattle.code_entry.specs.declared.Named.TheVariants.{Refused}
 use Rattle.code_cell.specs.Cell.{before, entries_of, keys_named, is_own, cell_keys}
 use Rattle.code_cell.proofs.Refusals.{plain_cell}
 use Rattle.cell_laws.specs.Prefixed.{before_runs, before_codes}
+use Rattle.refusal.specs.declared.Refusal.TheVariants.{EntryNotAllowed}
+use Rattle.refusal.specs.declared.Refusal.{Refusal}
+use Rattle.code_entry.specs.declared.CodeRange.{CodeRange}
+use Rattle.std.proofs.Common.{Result, Err}
 
 -- a digit is no other byte, and another byte no digit
 not_other : (x b : ℕ) → is_ascii x ≡ false → is_ascii b ≡ true → eqb b x ≡ false
@@ -301,7 +302,7 @@ module _ (c : List ℕ) (a : every is_ascii c ≡ true) where
   is_typed_law [] = refl
   is_typed_law (x ∷ k) = and_left_true (is_code (code_of [] (put (x ∷ k)))) (some_put c x k) ∙ ap is_code (code_put x k)
 
-  no_end : (t : Bool) (ds es : List ℕ) → code_range (t && false) ds es ≡ Refused entry_not_allowed
+  no_end : (t : Bool) (ds es : List ℕ) → code_range (t && false) ds es ≡ Err EntryNotAllowed
   unfolding code_range
   no_end t ds es = ap (λ (u : Bool). code_range u ds es) (and_right_false t refl)
 
@@ -322,12 +323,12 @@ module _ (c : List ℕ) (a : every is_ascii c ≡ true) where
   entry_before : (e : List ℕ) → entry_codes c e ≡ entry_codes [] (before_codes c e)
   unfolding entry_codes
   entry_before e =
-      ap (λ (t : Bool). cond t (typed_codes (map digit_of c) (typed e)) (Refused entry_not_allowed)) a
+      ap (λ (t : Bool). cond t (typed_codes (map digit_of c) (typed e)) (Err EntryNotAllowed)) a
       ∙ sym (ap (typed_codes []) (typed_before e) ∙ codes_put (typed e))
 
   each_before : (es : List (List ℕ)) → map (entry_codes c) es ≡ map (entry_codes []) (map (before_codes c) es)
   each_before [] = refl
-  each_before (e ∷ es) = ap₂ (λ (n : Named) (ns : List Named). n ∷ ns) (entry_before e) (each_before es)
+  each_before (e ∷ es) = ap₂ (λ (n : Result CodeRange Refusal) (ns : List (Result CodeRange Refusal)). n ∷ ns) (entry_before e) (each_before es)
 
 -- A cell that is not the country's own code, beside a country cell of digits: the cell with those digits before every code, beside
 -- none.

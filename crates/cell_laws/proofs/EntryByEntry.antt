@@ -7,22 +7,23 @@ use native.Mathlib.Omega.{arith}
 use borrow.Author.Tests.{lt-ltb, le-ltb, eq-eqb, ne_eqb}
 use lib.Dec.{eqb, ltb}
 use lib.ListN.{length, length-drop}
-use Rattle.refusal.specs.Refusal.{keys_too_many}
 use Rattle.dial_code.proofs.Tests.{below, equal, above, order}
 use Rattle.code_entry.specs.Range.{range_keys}
 use Rattle.code_entry.specs.Entry.{entry_of, rest_of, entry_codes}
 use Rattle.code_entry.specs.declared.CodeRange.{CodeRange}
-use Rattle.code_entry.specs.declared.Named.{Named}
-use Rattle.code_entry.specs.declared.Named.TheVariants.{Codes, Refused}
 use Rattle.code_entry.proofs.EntryLaws.{writable, rest_drop}
-use Rattle.code_cell.specs.Cell.{entries_of, insert_all, CellKeys, Keys, NoKeys, keys_named, is_own, cell_keys, entry_keys}
+use Rattle.code_cell.specs.Cell.{entries_of, insert_all, keys_named, is_own, cell_keys, entry_keys}
 use Rattle.code_cell.specs.Rising.{Above, Rising, holds}
 use Rattle.code_cell.proofs.Inserts.{above_less, all_rising, all_into_none}
 use Rattle.code_cell.proofs.Members.{holds_all, above_out, or_true}
 use Rattle.code_cell.proofs.RangeKeys.{range_keys_law, keys_rising}
 use Rattle.code_cell.proofs.Names.{later, entries_first}
 use Rattle.code_cell.proofs.Refusals.{plain_cell}
-use Rattle.cell_laws.specs.Entries.{joined, on_keys, behind, entries_into, by_entries}
+use Rattle.cell_laws.specs.Entries.{joined, behind, entries_into, by_entries}
+use Rattle.refusal.specs.declared.Refusal.TheVariants.{KeysTooMany}
+use Rattle.refusal.specs.Steps.{◌>>=◌}
+use Rattle.refusal.specs.declared.Refusal.{Refusal}
+use Rattle.std.proofs.Common.{Result, Ok, Err}
 
 -- A key behind the first is in the list; one in the list that is not the first is behind it; a list above a key does not hold it.
 held_later : (j x : ℕ) (l : List ℕ) → holds j l ≡ true → holds j (x ∷ l) ≡ true
@@ -62,7 +63,7 @@ joined_few ks l r q =
     held_few ks (insert_all ks l) r (all_rising ks l q) (λ (j : ℕ) e. holds_all j ks l ∙ ap (λ (b : Bool). b || holds j l) e)
 
 -- What an entry names rises.
-codes_rise : (c e : List ℕ) (r : CodeRange) → entry_codes c e ≡ Codes r → Rising (range_keys r)
+codes_rise : (c e : List ℕ) (r : CodeRange) → entry_codes c e ≡ Ok r → Rising (range_keys r)
 codes_rise c e r q =
     let w = writable c e r q in
     subst Rising (sym (range_keys_law r)) (keys_rising r.digits r.first r.count w.some w.few w.within)
@@ -71,14 +72,14 @@ module _ (room : ℕ) where
   -- One entry by itself, then into the keys so far: 52 of its keys alone is 52 of all.
   entry_joins :
       (l : List ℕ) (r : CodeRange) → Rising l → Rising (range_keys r)
-      → joined room l (keys_named room [] (Codes r ∷ []))
-      ≡ cond (ltb room (length (insert_all (range_keys r) l))) (NoKeys keys_too_many) (Keys (insert_all (range_keys r) l))
+      → joined room l (keys_named room [] (Ok r ∷ []))
+      ≡ cond (ltb room (length (insert_all (range_keys r) l))) (Err KeysTooMany) (Ok (insert_all (range_keys r) l))
   unfolding joined keys_named
   entry_joins l r q w =
       let ks = range_keys r in
       let m = insert_all ks l in
       let few : length ks ≤ length m = joined_few ks l w q in
-      ap (λ (x : List ℕ). joined room l (cond (ltb room (length x)) (NoKeys keys_too_many) (Keys x))) (all_into_none ks w)
+      ap (λ (x : List ℕ). joined room l (cond (ltb room (length x)) (Err KeysTooMany) (Ok x))) (all_into_none ks w)
       ∙ elim (order room (length ks)) [
         | below o ↦ rw (lt-ltb room (length ks) o, lt-ltb room (length m) (omega arith))
         | equal o ↦ rw (le-ltb room (length ks) (omega arith))
@@ -86,33 +87,33 @@ module _ (room : ℕ) where
       ]
 
   goes_on :
-      (t : Bool) (m : List ℕ) (f : List ℕ → CellKeys) (x : CellKeys) → f m ≡ x
-      → on_keys (cond t (NoKeys keys_too_many) (Keys m)) f ≡ cond t (NoKeys keys_too_many) x
+      (t : Bool) (m : List ℕ) (f : List ℕ → Result (List ℕ) Refusal) (x : Result (List ℕ) Refusal) → f m ≡ x
+      → (cond t (Err KeysTooMany) (Ok m) >>= f) ≡ cond t (Err KeysTooMany) x
   goes_on true m f x e = refl
   goes_on false m f x e = e
 
   first_entry :
-      (l : List ℕ) (f : List ℕ → CellKeys) (n : Named) (ns : List Named) → Rising l
-      → ((r : CodeRange) → n ≡ Codes r → Rising (range_keys r))
+      (l : List ℕ) (f : List ℕ → Result (List ℕ) Refusal) (n : Result CodeRange Refusal) (ns : List (Result CodeRange Refusal)) → Rising l
+      → ((r : CodeRange) → n ≡ Ok r → Rising (range_keys r))
       → ((m : List ℕ) → Rising m → f m ≡ keys_named room m ns)
-      → on_keys (joined room l (keys_named room [] (n ∷ []))) f ≡ keys_named room l (n ∷ ns)
+      → (joined room l (keys_named room [] (n ∷ [])) >>= f) ≡ keys_named room l (n ∷ ns)
   unfolding joined keys_named
-  first_entry l f (Refused e) ns q w g = refl
-  first_entry l f (Codes r) ns q w g =
+  first_entry l f (Err e) ns q w g = refl
+  first_entry l f (Ok r) ns q w g =
       let m = insert_all (range_keys r) l in
-      ap (λ (x : CellKeys). on_keys x f) (entry_joins l r q (w r refl))
+      ap (λ (x : Result (List ℕ) Refusal). x >>= f) (entry_joins l r q (w r refl))
       ∙ goes_on (ltb room (length m)) m f (keys_named room m ns) (g m (all_rising (range_keys r) l q))
 
   -- The part behind an entry, by what is shown of shorter parts.
   module _ (c : List ℕ) where
-    abbrev names : List ℕ → List Named
+    abbrev names : List ℕ → List (Result CodeRange Refusal)
     names s = map (entry_codes c) (entries_of s)
 
     part_behind :
         (n : ℕ) (m t : List ℕ)
         → length t ≤ n
         → ((s : List ℕ) → length s < n → entries_into n c room m s ≡ keys_named room m (names s))
-        → behind t (Keys m) (entries_into n c room m) ≡ keys_named room m (map (entry_codes c) (later t))
+        → behind t (Ok m) (entries_into n c room m) ≡ keys_named room m (map (entry_codes c) (later t))
     unfolding keys_named
     part_behind n m [] h i = refl
     part_behind n m (b ∷ t) h i = i t (omega arith)
@@ -126,7 +127,7 @@ module _ (room : ℕ) where
     unfolding entries_into entry_keys
     into_keys zero l s h r = absurd (omega arith)
     into_keys (suc n) l s h r =
-        first_entry l (λ (m : List ℕ). behind (rest_of s) (Keys m) (entries_into n c room m)) (entry_codes c (entry_of s))
+        first_entry l (λ (m : List ℕ). behind (rest_of s) (Ok m) (entries_into n c room m)) (entry_codes c (entry_of s))
         (map (entry_codes c) (later (rest_of s))) r (codes_rise c (entry_of s))
         (λ m w. part_behind n m (rest_of s) (omega (arith, rest_few s)) (λ t g. into_keys n m t g w))
         ∙ ap (λ (es : List (List ℕ)). keys_named room l (map (entry_codes c) es)) (sym (entries_first s))

@@ -11,14 +11,14 @@ use lib.ListN.{length}
 use Rattle.dial_code.proofs.Tests.{both, below, equal, above, order}
 use Rattle.code_entry.specs.Range.{range_keys}
 use Rattle.code_entry.specs.declared.CodeRange.{CodeRange}
-use Rattle.code_entry.specs.declared.Named.{Named}
-use Rattle.code_entry.specs.declared.Named.TheVariants.{Codes, Refused}
 use Rattle.code_cell.specs.Cell.{insert, insert_all}
-use Rattle.code_cell.specs.Count.{good_ranges, all_keys, same_range, added, bound_of, told, survey_of}
+use Rattle.code_cell.specs.Count.{good_ranges, all_keys, same_range, is_named, added, bound_of}
 use Rattle.code_cell.specs.Rising.{Rising, holds}
 use Rattle.code_cell.proofs.Inserts.{insert_same, insert_more, all_rising, above_less}
 use Rattle.code_cell.proofs.Members.{holds_all, above_out, or_true, insert_length}
 use Rattle.code_cell.proofs.RangeKeys.{range_keys_law, length_keys}
+use Rattle.refusal.specs.declared.Refusal.{Refusal}
+use Rattle.std.proofs.Common.{Result, Ok, Err, Option, Some, None}
 
 all_most : (ks l : List ℕ) → Rising l → length (insert_all ks l) ≤ length ks + length l
 unfolding insert_all
@@ -78,65 +78,56 @@ same_so p r e =
     let n : p.count ≡ r.count = eqb-true _ _ b.1 in
     λ i. record { digits = d i; first = f i; count = n i }
 
+-- The keys of the range before, if there is one, are there.
+abbrev Named : Option CodeRange → List ℕ → Type 0
+Named None l = Unit
+Named (Some p) l = insert_all (range_keys p) l ≡ l
+
+named_so : (p : Option CodeRange) (r : CodeRange) (l : List ℕ) → Named p l → is_named p r ≡ true → insert_all (range_keys r) l ≡ l
+named_so None r l h e = absurd (false≢true e)
+named_so (Some p) r l h e = ap (λ (x : CodeRange). insert_all (range_keys x) l) (sym (same_so p r e)) ∙ h
+
 -- The bound only grows.
-added_more : (room b : ℕ) (p r : CodeRange) → b ≤ added room b p r
+added_more : (room b : ℕ) (p : Option CodeRange) (r : CodeRange) → b ≤ added room b p r
 unfolding added
-added_more room b p r = go (ltb room b) (same_range p r)
+added_more room b p r = go (ltb room b) (is_named p r)
   where
     go : (s t : Bool) → b ≤ cond s b (cond t b (b + r.count))
     go true t = omega arith
     go false true = omega arith
     go false false = omega arith
 
-bound_more : (room b : ℕ) (p : CodeRange) (ns : List Named) → b ≤ bound_of room b p ns
+bound_more : (room b : ℕ) (p : Option CodeRange) (rs : List CodeRange) → b ≤ bound_of room b p rs
 unfolding bound_of
 bound_more room b p [] = omega arith
-bound_more room b p (Codes r ∷ ns) = omega (arith, added_more room b p r, bound_more room (added room b p r) r ns)
-bound_more room b p (Refused e ∷ ns) = omega arith
+bound_more room b p (r ∷ rs) = omega (arith, added_more room b p r, bound_more room (added room b p r) (Some r) rs)
 
 -- In the room, the bound grows by what is new.
 added_enough :
-    (room b : ℕ) (p r : CodeRange) (l : List ℕ) → Rising l
+    (room b : ℕ) (p : Option CodeRange) (r : CodeRange) (l : List ℕ) → Rising l
     → length l ≤ b
-    → insert_all (range_keys p) l ≡ l
+    → Named p l
     → b ≤ room
     → length (insert_all (range_keys r) l) ≤ added room b p r
 unfolding added
-added_enough room b p r l s h e m = rw (le-ltb room b m) (go (same_range p r) refl)
+added_enough room b p r l s h e m = rw (le-ltb room b m) (go (is_named p r) refl)
   where
-    go : (t : Bool) → same_range p r ≡ t → length (insert_all (range_keys r) l) ≤ cond t b (b + r.count)
-    go true q = omega (arith, ap length (ap (λ (x : CodeRange). insert_all (range_keys x) l) (sym (same_so p r q)) ∙ e))
+    go : (t : Bool) → is_named p r ≡ t → length (insert_all (range_keys r) l) ≤ cond t b (b + r.count)
+    go true q = omega (arith, ap length (named_so p r l e q))
     go false q =
         omega (arith, all_most (range_keys r) l s, ap length (range_keys_law r), length_keys r.digits r.first r.count)
 
 pub bound_enough :
-    (room b : ℕ) (p : CodeRange) (ns : List Named) (l : List ℕ) → Rising l
+    (room b : ℕ) (p : Option CodeRange) (rs : List CodeRange) (l : List ℕ) → Rising l
     → length l ≤ b
-    → insert_all (range_keys p) l ≡ l
-    → bound_of room b p ns ≤ room
-    → length (all_keys l (good_ranges ns)) ≤ room
-unfolding bound_of good_ranges all_keys
+    → Named p l
+    → bound_of room b p rs ≤ room
+    → length (all_keys l rs) ≤ room
+unfolding bound_of all_keys
 bound_enough room b p [] l s h e m = omega arith
-bound_enough room b p (Refused q ∷ ns) l s h e m = omega arith
-bound_enough room b p (Codes r ∷ ns) l s h e m =
-    bound_enough room (added room b p r) r ns (insert_all (range_keys r) l)
+bound_enough room b p (r ∷ rs) l s h e m =
+    bound_enough room (added room b p r) (Some r) rs (insert_all (range_keys r) l)
     (all_rising (range_keys r) l s)
-    (added_enough room b p r l s h e (omega (arith, added_more room b p r, bound_more room (added room b p r) r ns)))
+    (added_enough room b p r l s h e (omega (arith, added_more room b p r, bound_more room (added room b p r) (Some r) rs)))
     (again (range_keys r) l s)
     m
-
--- A look at one entry after the other.
-module _ (room b : ℕ) (p : CodeRange) {ms : List Named} where
-  pub look_refused : (q : ℕ) (ns : List Named) → ms ≡ Refused q ∷ ns → survey_of room b p ms ≡ told q b
-  unfolding survey_of
-  look_refused q ns e = ap (survey_of room b p) e
-
-  pub look_next :
-      (r : CodeRange) (ns : List Named) → ms ≡ Codes r ∷ ns
-      → survey_of room b p ms ≡ survey_of room (added room b p r) r ns
-  unfolding survey_of
-  look_next r ns e = ap (survey_of room b p) e
-
-pub look_end : (room b : ℕ) (p : CodeRange) → survey_of room b p [] ≡ told 0 b
-unfolding survey_of
-look_end room b p = refl

@@ -6,6 +6,7 @@ pub mod Members
 pub mod Marks
 pub mod Scans
 pub mod Names
+pub mod Walks
 pub mod Decisions
 pub mod Bounds
 pub mod Looks

@@ -15,7 +15,8 @@ use Rattle.dial_code.specs.Key.{key}
 use Rattle.dial_code.proofs.Tests.{below, equal, above, order, same_eqb}
 use Rattle.dial_code.proofs.DigitLaws.{length_digits, digits_are, value_digits}
 use Rattle.dial_code.proofs.KeyLaws.{key_injective}
-use Rattle.code_entry.specs.Range.{Writable, keys_from}
+use Rattle.code_entry.specs.Codes.{Writable}
+use Rattle.code_entry.specs.Range.{keys_from}
 use Rattle.code_entry.specs.declared.CodeRange.{CodeRange}
 use Rattle.code_cell.specs.Cell.{insert, insert_all}
 use Rattle.code_cell.specs.Count.{mark, low_of, high_of, marks_end, all_keys}

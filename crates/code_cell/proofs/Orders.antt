@@ -9,15 +9,13 @@ use native.Mathlib.Omega.{arith}
 use borrow.Author.Tests.{ltb-true}
 use lib.Dec.{ltb}
 use lib.ListN.{length, length-append}
-use Rattle.dial_code.specs.Key.{keys_end, key_or_zero}
+use Rattle.dial_code.specs.Key.{keys_end}
 use Rattle.dial_code.proofs.Tests.{both}
-use Rattle.dial_code.proofs.CountedKeys.{key_so}
-use Rattle.code_entry.specs.Range.{range_keys, Writable, keys_from}
+use Rattle.code_entry.specs.Codes.{Writable}
+use Rattle.code_entry.specs.Range.{range_keys, keys_from, first_key, last_key}
 use Rattle.code_entry.specs.declared.CodeRange.{CodeRange}
-use Rattle.code_entry.specs.declared.Named.{Named}
-use Rattle.code_entry.specs.declared.Named.TheVariants.{Codes, Refused}
 use Rattle.code_cell.specs.Cell.{insert_all, entries_of, entry_names}
-use Rattle.code_cell.specs.Count.{good_ranges, all_keys, same_range, added, bound_of, survey_of, no_range, first_key, last_key, order, order_with, ordered, no_order}
+use Rattle.code_cell.specs.Count.{good_ranges, all_keys, is_named, added, bound_of, order_with, ordered, no_order}
 use Rattle.code_cell.specs.declared.Order.{Order}
 use Rattle.code_cell.specs.declared.Survey.{Survey}
 use Rattle.code_cell.specs.Rising.{Above, Below, Rising}
@@ -25,6 +23,8 @@ use Rattle.code_cell.proofs.Inserts.{above_less, below_more, below_append, above
 use Rattle.code_cell.proofs.RangeKeys.{range_keys_law, first_key_law, last_key_law, keys_below, keys_rising, length_keys}
 use Rattle.code_cell.proofs.Marks.{AllWritable}
 use Rattle.code_cell.proofs.Refusals.{good_writable}
+use Rattle.refusal.specs.declared.Refusal.{Refusal}
+use Rattle.std.proofs.Common.{Result, Ok, Err, Option, Some, None}
 
 abbrev rises : ℕ → List CodeRange → Bool
 rises k [] = true
@@ -82,9 +82,9 @@ module _ (r : CodeRange) (w : Writable r) where
   count_so = ap length (range_keys_law r) ∙ length_keys r.digits r.first r.count
 
 -- The bound grows by no more than the codes of a range.
-added_most : (room b : ℕ) (p r : CodeRange) → added room b p r ≤ b + r.count
+pub added_most : (room b : ℕ) (p : Option CodeRange) (r : CodeRange) → added room b p r ≤ b + r.count
 unfolding added
-added_most room b p r = go (ltb room b) (same_range p r)
+added_most room b p r = go (ltb room b) (is_named p r)
   where
     go : (s t : Bool) → cond s b (cond t b (b + r.count)) ≤ b + r.count
     go true t = omega arith
@@ -125,21 +125,20 @@ module _ (r : CodeRange) (w : Writable r) (l : List ℕ) where
 
 -- Rising: the keys so far are at most the last key.
 rising_bound :
-    (room b : ℕ) (p : CodeRange) (ns : List Named) (l : List ℕ) (k : ℕ)
-    → AllWritable (good_ranges ns)
+    (room b : ℕ) (p : Option CodeRange) (rs : List CodeRange) (l : List ℕ) (k : ℕ)
+    → AllWritable rs
     → Below l (suc k)
-    → rises k (good_ranges ns) ≡ true
+    → rises k rs ≡ true
     → b ≤ length l
-    → bound_of room b p ns ≤ length (all_keys l (good_ranges ns))
-unfolding bound_of good_ranges all_keys
+    → bound_of room b p rs ≤ length (all_keys l rs)
+unfolding bound_of all_keys
 rising_bound room b p [] l k w a h m = m
-rising_bound room b p (Refused q ∷ ns) l k w a h m = m
-rising_bound room b p (Codes r ∷ ns) l k w a h m =
-    let t = both (ltb k (first_key r)) (rises (last_key r) (good_ranges ns)) h in
+rising_bound room b p (r ∷ rs) l k w a h m =
+    let t = both (ltb k (first_key r)) (rises (last_key r) rs) h in
     let o : k < first_key r = ltb-true k (first_key r) t.0 in
     let e = put_above r w.0 l (below_up l (suc k) (first_key r) o a) in
     let f : suc k ≤ suc (last_key r) = omega (arith, ends_so r w.0) in
-    rising_bound room (added room b p r) r ns (insert_all (range_keys r) l) (last_key r) w.1
+    rising_bound room (added room b p r) (Some r) rs (insert_all (range_keys r) l) (last_key r) w.1
     (subst (λ (x : List ℕ). Below x (suc (last_key r))) (sym e)
     (below_join l (range_keys r) (suc (last_key r)) (below_up l (suc k) (suc (last_key r)) f a)
     (keys_above_last r w.0 (suc (last_key r)) (omega arith))))
@@ -147,20 +146,19 @@ rising_bound room b p (Codes r ∷ ns) l k w a h m =
 
 -- Falling: the keys so far are at least the first key.
 falling_bound :
-    (room b : ℕ) (p : CodeRange) (ns : List Named) (l : List ℕ) (k : ℕ)
-    → AllWritable (good_ranges ns)
+    (room b : ℕ) (p : Option CodeRange) (rs : List CodeRange) (l : List ℕ) (k : ℕ)
+    → AllWritable rs
     → ((j : ℕ) → j < k → Above j l)
-    → falls k (good_ranges ns) ≡ true
+    → falls k rs ≡ true
     → b ≤ length l
-    → bound_of room b p ns ≤ length (all_keys l (good_ranges ns))
-unfolding bound_of good_ranges all_keys
+    → bound_of room b p rs ≤ length (all_keys l rs)
+unfolding bound_of all_keys
 falling_bound room b p [] l k w a h m = m
-falling_bound room b p (Refused q ∷ ns) l k w a h m = m
-falling_bound room b p (Codes r ∷ ns) l k w a h m =
-    let t = both (ltb (last_key r) k) (falls (first_key r) (good_ranges ns)) h in
+falling_bound room b p (r ∷ rs) l k w a h m =
+    let t = both (ltb (last_key r) k) (falls (first_key r) rs) h in
     let o : last_key r < k = ltb-true (last_key r) k t.0 in
     let e = put_below r w.0 l k o a in
-    falling_bound room (added room b p r) r ns (insert_all (range_keys r) l) (first_key r) w.1
+    falling_bound room (added room b p r) (Some r) rs (insert_all (range_keys r) l) (first_key r) w.1
     (λ j g.
     subst (Above j) (sym e)
     (above_append j (range_keys r) l (keys_from_first r w.0 j g) (a j (omega (arith, ends_so r w.0)))))
@@ -168,59 +166,21 @@ falling_bound room b p (Codes r ∷ ns) l k w a h m =
 
 -- In order, the distinct codes are no fewer than the bound.
 pub ordered_bound :
-    (room : ℕ) (p : CodeRange) (ns : List Named) → AllWritable (good_ranges ns)
-    → ordered no_order (good_ranges ns) ≡ true
-    → bound_of room 0 p ns ≤ length (all_keys [] (good_ranges ns))
-ordered_bound room p ns w h =
-    go (rises 0 (good_ranges ns)) refl (falls keys_end (good_ranges ns)) (sym (both_orders (good_ranges ns) no_order) ∙ h)
+    (room : ℕ) (p : Option CodeRange) (rs : List CodeRange) → AllWritable rs
+    → ordered no_order rs ≡ true
+    → bound_of room 0 p rs ≤ length (all_keys [] rs)
+ordered_bound room p rs w h =
+    go (rises 0 rs) refl (falls keys_end rs) (sym (both_orders rs no_order) ∙ h)
   where
-    go : (t : Bool) → rises 0 (good_ranges ns) ≡ t → (u : Bool) → (t || falls keys_end (good_ranges ns)) ≡ true
-        → bound_of room 0 p ns ≤ length (all_keys [] (good_ranges ns))
-    go true e u f = rising_bound room 0 p ns [] 0 w tt e (omega arith)
-    go false e u f = falling_bound room 0 p ns [] keys_end w (λ j g. tt) f (omega arith)
+    go : (t : Bool) → rises 0 rs ≡ t → (u : Bool) → (t || falls keys_end rs) ≡ true
+        → bound_of room 0 p rs ≤ length (all_keys [] rs)
+    go true e u f = rising_bound room 0 p rs [] 0 w tt e (omega arith)
+    go false e u f = falling_bound room 0 p rs [] keys_end w (λ j g. tt) f (omega arith)
 
--- One entry after the other.
-module _ (o : Order) {ms : List Named} where
-  pub order_refused : (q : ℕ) (ns : List Named) → ms ≡ Refused q ∷ ns → ordered o (good_ranges ms) ≡ (o.rises || o.falls)
-  unfolding good_ranges ordered
-  order_refused q ns e = ap (λ (xs : List Named). ordered o (good_ranges xs)) e
-
-  pub order_next : (r : CodeRange) (ns : List Named) → ms ≡ Codes r ∷ ns → ordered o (good_ranges ms) ≡ ordered (order_with o r) (good_ranges ns)
-  unfolding good_ranges ordered
-  order_next r ns e = ap (λ (xs : List Named). ordered o (good_ranges xs)) e
-
-pub order_end : (o : Order) → ordered o (good_ranges []) ≡ (o.rises || o.falls)
-unfolding good_ranges ordered
-order_end o = refl
-
--- The order as the code makes it.
-pub first_so : (r : CodeRange) → Writable r → key_or_zero r.digits r.first ≡ first_key r
-first_so r w = key_so r.digits r.first w.some w.few (omega (arith, w.least, w.within))
-
-pub last_so : (r : CodeRange) → Writable r → key_or_zero r.digits (r.first + (r.count - 1)) ≡ last_key r
-last_so r w = key_so r.digits (r.first + (r.count - 1)) w.some w.few (omega (arith, w.least, w.within))
-
-pub made :
-    (o : Order) (r : CodeRange) (up down : Bool) (top bottom : ℕ)
-    → bottom ≡ first_key r
-    → top ≡ last_key r
-    → up ≡ (o.rises && ltb o.top bottom)
-    → down ≡ (o.falls && ltb top o.bottom)
-    → order up down top bottom ≡ order_with o r
-unfolding order_with
-made o r up down top bottom f l u d =
-    let u' : up ≡ (o.rises && ltb o.top (first_key r)) = u ∙ ap (λ (x : ℕ). o.rises && ltb o.top x) f in
-    let d' : down ≡ (o.falls && ltb (last_key r) o.bottom) = d ∙ ap (λ (x : ℕ). o.falls && ltb x o.bottom) l in
-    λ i. order (u' i) (d' i) (l i) (f i)
-
--- By the first look: in order and above the room, the distinct codes are too many.
-pub ordered_many :
-    (c s : List ℕ) (room : ℕ) (t : Survey)
-    → t ≡ survey_of room 0 no_range (entry_names c s)
-    → ordered no_order (good_ranges (entry_names c s)) ≡ true
-    → room < t.bound
-    → room < length (all_keys [] (good_ranges (entry_names c s)))
-unfolding survey_of
-ordered_many c s room t e o h =
-    omega
-    (arith, ap (λ (x : Survey). x.bound) e, ordered_bound room no_range (entry_names c s) (good_writable c (entries_of s)) o)
+-- In order and above the room, the distinct codes are too many.
+pub look_many :
+    (room : ℕ) (rs : List CodeRange) → AllWritable rs
+    → ordered no_order rs ≡ true
+    → room < bound_of room 0 None rs
+    → room < length (all_keys [] rs)
+look_many room rs w o h = omega (arith, ordered_bound room None rs w o)

@@ -11,51 +11,51 @@ use lib.Dec.{eqb, leb, ltb}
 use lib.ListN.{length}
 use Rattle.dial_code.proofs.Tests.{below, equal, above, order}
 use Rattle.code_entry.specs.declared.CodeRange.{CodeRange}
-use Rattle.code_entry.specs.Range.{Writable}
+use Rattle.code_entry.specs.Codes.{Writable}
 use Rattle.code_cell.specs.Count.{low_of, high_of, marks_end, stretch, closer, closest, all_keys}
-use Rattle.code_cell.specs.declared.Stretch.{Stretch}
+use Rattle.std.specs.declared.ops.Range.{Range}
 use Rattle.code_cell.specs.Rising.{holds}
 use Rattle.code_cell.proofs.Members.{from, from_all, from_gap, from_stretch, or_true, or_false, or_right}
 use Rattle.code_cell.proofs.Marks.{AllWritable, all_marks, ranges_alike, is_in, covered, holds_covered, high_most}
 
-module _ (a : ℕ) (s : Stretch) (r : CodeRange) where
+module _ (a : ℕ) (s : Range ℕ) (r : CodeRange) where
   pub passed : high_of r ≤ a → closer a s r ≡ s
   unfolding closer
   passed h = rw (le-ltb a (high_of r) h)
 
-  pub not_closer : s.low ≤ max a (low_of r) → closer a s r ≡ s
+  pub not_closer : s.start ≤ max a (low_of r) → closer a s r ≡ s
   unfolding closer
   not_closer h = go (ltb a (high_of r))
     where
-      go : (t : Bool) → cond t (cond (ltb (max a (low_of r)) s.low) (stretch (max a (low_of r)) (high_of r)) s) s ≡ s
-      go true = rw (le-ltb (max a (low_of r)) s.low h)
+      go : (t : Bool) → cond t (cond (ltb (max a (low_of r)) s.start) (stretch (max a (low_of r)) (high_of r)) s) s ≡ s
+      go true = rw (le-ltb (max a (low_of r)) s.start h)
       go false = refl
 
-  pub is_closer : a < high_of r → max a (low_of r) < s.low → closer a s r ≡ stretch (max a (low_of r)) (high_of r)
+  pub is_closer : a < high_of r → max a (low_of r) < s.start → closer a s r ≡ stretch (max a (low_of r)) (high_of r)
   unfolding closer
-  is_closer h l = rw (lt-ltb a (high_of r) h, lt-ltb (max a (low_of r)) s.low l)
+  is_closer h l = rw (lt-ltb a (high_of r) h, lt-ltb (max a (low_of r)) s.start l)
 
 -- A stretch of covered numbers from a number on.
-pub record Taken (a : ℕ) (rs : List CodeRange) (s : Stretch) : Type 0 where
-  pub after : a ≤ s.low
-  pub some : s.low < s.high
-  pub most : s.high ≤ marks_end
-  pub full : (x : ℕ) → s.low ≤ x → x < s.high → covered rs x ≡ true
+pub record Taken (a : ℕ) (rs : List CodeRange) (s : Range ℕ) : Type 0 where
+  pub after : a ≤ s.start
+  pub some : s.start < s.end
+  pub most : s.end ≤ marks_end
+  pub full : (x : ℕ) → s.start ≤ x → x < s.end → covered rs x ≡ true
 
 -- How the stretch found came about: the one so far, or one of a range.
-pub data Found (a : ℕ) (s : Stretch) (rs : List CodeRange) (t : Stretch) : Type 0 where
+pub data Found (a : ℕ) (s : Range ℕ) (rs : List CodeRange) (t : Range ℕ) : Type 0 where
   kept : t ≡ s → Found a s rs t
   taken : Taken a rs t → Found a s rs t
 
-pub record Scanned (a : ℕ) (s : Stretch) (rs : List CodeRange) (t : Stretch) : Type 0 where
-  pub less : t.low ≤ s.low
-  pub gap : (x : ℕ) → a ≤ x → x < t.low → covered rs x ≡ false
+pub record Scanned (a : ℕ) (s : Range ℕ) (rs : List CodeRange) (t : Range ℕ) : Type 0 where
+  pub less : t.start ≤ s.start
+  pub gap : (x : ℕ) → a ≤ x → x < t.start → covered rs x ≡ false
   pub found : Found a s rs t
 
 -- The same of one range alone.
-record One (a : ℕ) (s : Stretch) (r : CodeRange) (t : Stretch) : Type 0 where
-  less : t.low ≤ s.low
-  gap : (x : ℕ) → a ≤ x → x < t.low → is_in (low_of r) (high_of r) x ≡ false
+record One (a : ℕ) (s : Range ℕ) (r : CodeRange) (t : Range ℕ) : Type 0 where
+  less : t.start ≤ s.start
+  gap : (x : ℕ) → a ≤ x → x < t.start → is_in (low_of r) (high_of r) x ≡ false
   found : Found a s (r ∷ []) t
 
 out : (a b x : ℕ) → (x < a) → is_in a b x ≡ false
@@ -71,10 +71,10 @@ past a b x h = go (leb a x)
 within : (a b x : ℕ) → a ≤ x → x < b → is_in a b x ≡ true
 within a b x h l = rw (le-leb a x h, lt-ltb x b l)
 
-one : (a : ℕ) (s : Stretch) (r : CodeRange) → Writable r → One a s r (closer a s r)
+one : (a : ℕ) (s : Range ℕ) (r : CodeRange) → Writable r → One a s r (closer a s r)
 one a s r w =
     elim (order a (high_of r)) [
-      | below o ↦ elim (order (max a (low_of r)) s.low) [
+      | below o ↦ elim (order (max a (low_of r)) s.start) [
         | below l ↦
             rw (is_closer a s r o l)
             (record {
@@ -98,7 +98,7 @@ one a s r w =
   where
     unchanged :
         closer a s r ≡ s
-        → ((x : ℕ) → a ≤ x → x < s.low → is_in (low_of r) (high_of r) x ≡ false)
+        → ((x : ℕ) → a ≤ x → x < s.start → is_in (low_of r) (high_of r) x ≡ false)
         → One a s r (closer a s r)
     unchanged e g = rw e (record { less = omega arith; gap = g; found = kept refl })
 
@@ -106,7 +106,7 @@ neither : {b c : Bool} → b ≡ false → c ≡ false → (b || c) ≡ false
 neither e f = rw (e, f)
 
 -- The first stretch among those of ranges.
-pub scanned : (rs : List CodeRange) (a : ℕ) (s : Stretch) → AllWritable rs → Scanned a s rs (closest a s rs)
+pub scanned : (rs : List CodeRange) (a : ℕ) (s : Range ℕ) → AllWritable rs → Scanned a s rs (closest a s rs)
 unfolding closest
 scanned [] a s w = record { less = omega arith; gap = λ x p q. refl; found = kept refl }
 scanned (r ∷ rs) a s w =
@@ -118,7 +118,7 @@ scanned (r ∷ rs) a s w =
       found = joined o.found i.found;
     }
   where
-    first : {t : Stretch} → Taken a (r ∷ []) t → Taken a (r ∷ rs) t
+    first : {t : Range ℕ} → Taken a (r ∷ []) t → Taken a (r ∷ rs) t
     first k =
         record {
           after = k.after;
@@ -129,7 +129,7 @@ scanned (r ∷ rs) a s w =
               rw b;
         }
 
-    later : {t : Stretch} → Taken a rs t → Taken a (r ∷ rs) t
+    later : {t : Range ℕ} → Taken a rs t → Taken a (r ∷ rs) t
     later k =
         record {
           after = k.after;
@@ -138,7 +138,7 @@ scanned (r ∷ rs) a s w =
           full = λ x p q. rw (k.full x p q) (or_true (is_in (low_of r) (high_of r) x));
         }
 
-    joined : {t u : Stretch} → Found a s (r ∷ []) t → Found a t rs u → Found a s (r ∷ rs) u
+    joined : {t u : Range ℕ} → Found a s (r ∷ []) t → Found a t rs u → Found a s (r ∷ rs) u
     joined (kept e) (kept f) = kept (f ∙ e)
     joined (taken k) (kept f) = taken (subst (Taken a (r ∷ rs)) (sym f) (first k))
     joined o (taken k) = taken (later k)
@@ -165,11 +165,11 @@ module _ (rs : List CodeRange) (w : AllWritable rs) where
   pub all_left : left 0 ≡ length (all_keys [] rs)
   all_left = from_all (all_marks [] rs) ∙ sym (ranges_alike rs w).long
 
-  module _ (a : ℕ) (t : Stretch) (e : t ≡ closest a (stretch marks_end marks_end) rs) where
+  module _ (a : ℕ) (t : Range ℕ) (e : t ≡ closest a (stretch marks_end marks_end) rs) where
     scan : Scanned a (stretch marks_end marks_end) rs t
     scan = subst (Scanned a (stretch marks_end marks_end) rs) (sym e) (scanned rs a (stretch marks_end marks_end) w)
 
-    pub none_left : marks_end ≤ t.low → left a ≡ 0
+    pub none_left : marks_end ≤ t.start → left a ≡ 0
     none_left h =
         from_none a (all_marks [] rs)
         (λ x p. holds_covered rs x ∙ elim (order x marks_end) [
@@ -178,23 +178,23 @@ module _ (rs : List CodeRange) (w : AllWritable rs) where
           | above o ↦ beyond rs x w (omega arith)
         ])
 
-    taken_so : t.low < marks_end → Taken a rs t
+    taken_so : t.start < marks_end → Taken a rs t
     taken_so h = go scan.found
       where
         go : Found a (stretch marks_end marks_end) rs t → Taken a rs t
-        go (kept f) = absurd (omega (arith, ap (λ (s : Stretch). s.low) f))
+        go (kept f) = absurd (omega (arith, ap (λ (s : Range ℕ). s.start) f))
         go (taken k) = k
 
     -- From the stretch's end on they are fewer by its length.
-    pub some_left : t.low < marks_end → (a < t.high) × (t.high ≤ marks_end) × (t.low < t.high) × (left a ≡ t.high - t.low + left t.high)
+    pub some_left : t.start < marks_end → (a < t.end) × (t.end ≤ marks_end) × (t.start < t.end) × (left a ≡ t.end - t.start + left t.end)
     some_left h =
         let k = taken_so h in
         let m = all_marks [] rs in
-        let n : ℕ = t.high - t.low in
-        let z : t.low + n ≡ t.high = omega (arith, k.some) in
-        let g : from a m ≡ from t.low m =
-        from_gap a t.low m k.after (λ x p q. holds_covered rs x ∙ scan.gap x p q) in
-        let f : from t.low m ≡ n + from (t.low + n) m =
-        from_stretch n t.low m (ranges_alike rs w).marks_rise
+        let n : ℕ = t.end - t.start in
+        let z : t.start + n ≡ t.end = omega (arith, k.some) in
+        let g : from a m ≡ from t.start m =
+        from_gap a t.start m k.after (λ x p q. holds_covered rs x ∙ scan.gap x p q) in
+        let f : from t.start m ≡ n + from (t.start + n) m =
+        from_stretch n t.start m (ranges_alike rs w).marks_rise
         (λ x p q. holds_covered rs x ∙ k.full x p (omega (arith, z))) in
         (omega (arith, k.after, k.some), k.most, k.some, g ∙ rw z at f)

@@ -1,16 +1,16 @@
 -- The codes of a cell counted without memory: each code has a number of its own, its digits behind a 1, so that a range is a stretch
 -- of numbers, and the distinct codes are counted stretch by stretch.
-use Rattle.std.specs.Prelude.{◌≡◌, refl, Bool, true, false, cond, ◌&&◌, ◌||◌, List, [], ◌∷◌, ◌++◌, map, ℕ, ◌+◌, ◌-◌, ◌*◌, ◌^◌, max, eqb, ltb}
+use Rattle.std.specs.Prelude.{◌≡◌, refl, Bool, true, false, cond, ◌&&◌, ◌||◌, List, [], ◌∷◌, ◌++◌, map, ℕ, ◌+◌, ◌*◌, ◌^◌, max, eqb, ltb, Result, Ok, Err, Option, Some, None}
 use Rattle.dial_code.specs.Digits.{most_digits, digits}
 use Rattle.dial_code.specs.Key.{key, keys_end}
-use Rattle.code_entry.specs.Range.{range_of, range_keys}
+use Rattle.code_entry.specs.Range.{range_of, range_keys, first_key, last_key}
 use Rattle.code_entry.specs.declared.CodeRange.{CodeRange}
-use Rattle.code_entry.specs.declared.Named.{Named}
-use Rattle.code_entry.specs.declared.Named.TheVariants.{Codes, Refused}
 use Rattle.code_cell.specs.Cell.{insert_all}
 use Rattle.code_cell.specs.declared.Order.{Order}
-use Rattle.code_cell.specs.declared.Stretch.{Stretch}
+use Rattle.std.specs.declared.ops.Range.{Range}
 use Rattle.code_cell.specs.declared.Survey.{Survey}
+use Rattle.refusal.specs.declared.Refusal.TheVariants.{EntryNotAllowed}
+use Rattle.refusal.specs.declared.Refusal.{Refusal}
 
 -- the number of a code of k digits, and of a range's first code
 abbrev pub mark : ℕ → ℕ → ℕ
@@ -26,19 +26,19 @@ high_of r = low_of r + r.count
 abbrev pub marks_end : ℕ
 marks_end = 2 * 10 ^ most_digits
 
-abbrev pub stretch : ℕ → ℕ → Stretch
-stretch a b = record { low = a; high = b }
+abbrev pub stretch : ℕ → ℕ → Range ℕ
+stretch a b = record { start = a; end = b }
 
--- What entries name up to the first that is refused, and why that one is; 0 if none is.
-unfoldable pub good_ranges : List Named → List CodeRange
+-- What entries name up to the first that is refused, and whether none is.
+unfoldable pub good_ranges : List (Result CodeRange Refusal) → List CodeRange
 good_ranges [] = []
-good_ranges (Codes r ∷ ns) = r ∷ good_ranges ns
-good_ranges (Refused e ∷ ns) = []
+good_ranges (Ok r ∷ ns) = r ∷ good_ranges ns
+good_ranges (Err e ∷ ns) = []
 
-unfoldable pub first_refusal : List Named → ℕ
-first_refusal [] = 0
-first_refusal (Codes r ∷ ns) = first_refusal ns
-first_refusal (Refused e ∷ ns) = e
+unfoldable pub outcome : List (Result CodeRange Refusal) → Result (Unit {0}) Refusal
+outcome [] = Ok tt
+outcome (Ok r ∷ ns) = outcome ns
+outcome (Err e ∷ ns) = Err e
 
 -- The keys of ranges, one range after the other, into the keys so far.
 unfoldable pub all_keys : List ℕ → List CodeRange → List ℕ
@@ -46,11 +46,11 @@ all_keys l [] = l
 all_keys l (r ∷ rs) = all_keys (insert_all (range_keys r) l) rs
 
 -- The stretch that starts first among those from a number on: one so far, and one of a range.
-unfoldable pub closer : ℕ → Stretch → CodeRange → Stretch
+unfoldable pub closer : ℕ → Range ℕ → CodeRange → Range ℕ
 closer a s r =
-    cond (ltb a (high_of r)) (cond (ltb (max a (low_of r)) s.low) (stretch (max a (low_of r)) (high_of r)) s) s
+    cond (ltb a (high_of r)) (cond (ltb (max a (low_of r)) s.start) (stretch (max a (low_of r)) (high_of r)) s) s
 
-unfoldable pub closest : ℕ → Stretch → List CodeRange → Stretch
+unfoldable pub closest : ℕ → Range ℕ → List CodeRange → Range ℕ
 unfolding closer
 closest a s [] = s
 closest a s (r ∷ rs) = closest a (closer a s r) rs
@@ -60,39 +60,34 @@ closest a s (r ∷ rs) = closest a (closer a s r) rs
 unfoldable pub same_range : CodeRange → CodeRange → Bool
 same_range p r = eqb p.digits r.digits && (eqb p.first r.first && eqb p.count r.count)
 
-unfoldable pub added : ℕ → ℕ → CodeRange → CodeRange → ℕ
-unfolding same_range
-added room b p r = cond (ltb room b) b (cond (same_range p r) b (b + r.count))
+abbrev pub is_named : Option CodeRange → CodeRange → Bool
+is_named None r = false
+is_named (Some p) r = same_range p r
 
-unfoldable pub bound_of : ℕ → ℕ → CodeRange → List Named → ℕ
+unfoldable pub added : ℕ → ℕ → Option CodeRange → CodeRange → ℕ
+unfolding same_range
+added room b p r = cond (ltb room b) b (cond (is_named p r) b (b + r.count))
+
+unfoldable pub bound_of : ℕ → ℕ → Option CodeRange → List CodeRange → ℕ
 unfolding added
 bound_of room b p [] = b
-bound_of room b p (Codes r ∷ ns) = bound_of room (added room b p r) r ns
-bound_of room b p (Refused e ∷ ns) = b
+bound_of room b p (r ∷ rs) = bound_of room (added room b p r) (Some r) rs
 
--- A first look at a cell: that bound, and why the first refused entry is.
-abbrev pub told : ℕ → ℕ → Survey
-told e b = record { refusal = e; bound = b }
-
-unfoldable pub survey_of : ℕ → ℕ → CodeRange → List Named → Survey
-unfolding first_refusal bound_of
-survey_of room b p ns = told (first_refusal ns) (bound_of room b p ns)
-
--- no codes
-abbrev pub no_range : CodeRange
-no_range = record { digits = 0; first = 0; count = 0 }
+-- A first look at a cell: that bound, and whether all its entries can be read.
+abbrev pub told : Result (Unit {0}) Refusal → ℕ → Survey
+told x b = record { answer = x; bound = b }
 
 -- 7, 98, 99: the last is refused, and nothing behind it counts
-named : List Named
-named = Codes (range_of 1 7 1) ∷ Codes (range_of 2 98 1) ∷ Refused 50 ∷ Codes (range_of 1 1 1) ∷ []
+named : List (Result CodeRange Refusal)
+named = Ok (range_of 1 7 1) ∷ Ok (range_of 2 98 1) ∷ Err EntryNotAllowed ∷ Ok (range_of 1 1 1) ∷ []
 
 before_refused :
     good_ranges named ∷ good_ranges [] ∷ [] ≡ (range_of 1 7 1 ∷ range_of 2 98 1 ∷ []) ∷ [] ∷ []
 unfolding good_ranges named
 before_refused = refl
 
-first_refused : first_refusal named ∷ first_refusal [] ∷ [] ≡ 50 ∷ 0 ∷ []
-unfolding first_refusal named
+first_refused : outcome named ∷ outcome [] ∷ [] ≡ Err EntryNotAllowed ∷ Ok tt ∷ []
+unfolding outcome named
 first_refused = refl
 
 -- 7, 1 and 7 again
@@ -109,20 +104,13 @@ stretches = refl
 
 -- 43 to 46, the same again, 7: one that stands twice in a row counts once; above the room nothing is added
 bounds :
-    bound_of 9 0 no_range (Codes (range_of 2 43 4) ∷ Codes (range_of 2 43 4) ∷ Codes (range_of 1 7 1) ∷ [])
-    ∷ bound_of 3 0 no_range (Codes (range_of 2 43 4) ∷ Codes (range_of 1 7 1) ∷ [])
-    ∷ bound_of 9 0 no_range named
+    bound_of 9 0 None (range_of 2 43 4 ∷ range_of 2 43 4 ∷ range_of 1 7 1 ∷ [])
+    ∷ bound_of 3 0 None (range_of 2 43 4 ∷ range_of 1 7 1 ∷ [])
+    ∷ bound_of 9 0 None (good_ranges named)
     ∷ []
     ≡ 5 ∷ 4 ∷ 2 ∷ []
-unfolding bound_of named
+unfolding bound_of good_ranges named
 bounds = refl
-
--- The keys of a range's first and last code.
-abbrev pub first_key : CodeRange → ℕ
-first_key r = key (digits r.digits r.first)
-
-abbrev pub last_key : CodeRange → ℕ
-last_key r = key (digits r.digits (r.first + (r.count - 1)))
 
 -- Ranges so far, whether each is above all before it or each below: the last key of the last one, and its first.
 abbrev pub order : Bool → Bool → ℕ → ℕ → Order

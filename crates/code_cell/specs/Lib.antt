@@ -2,3 +2,4 @@
 pub mod Cell
 pub mod Rising
 pub mod Count
+pub mod Reading

@@ -1,286 +1,280 @@
 // What a cell of codes is refused for (document 02, request 1): known before a word is written, with no memory but a few numbers.
 #![tactic(auto)]
 
-ghost use Rattle.std.specs.Prelude.{◌≡◌, ◌&&◌, ◌||◌, [], ◌∷◌, ◌+◌, ◌^◌, ◌≤◌, ◌<◌, leb, ltb, length};
+ghost use Rattle.std.specs.Prelude.{◌≡◌, ◌≢◌, ℕ, MatchOption, EachIndex, slice_index, ◌||◌, ◌+◌, ◌^◌, ◌≤◌, ◌<◌, [], ◌∷◌, ◌++◌, length, leb};
+ghost use Rattle.std.specs.Option.{option_map_or};
+ghost use Rattle.std.specs.Iterator.{item_count};
+ghost use Rattle.code_entry.specs.Entry.{is_blank, comma, entry_of, entry_codes};
+ghost use Rattle.code_cell.specs.Reading.{names_left, ranges_left, outcome_left, GivesFirst, GivesLast};
 ghost use Rattle.dial_code.specs.Digits.{every};
-ghost use Rattle.code_entry.specs.Entry.{is_blank, own_code};
-ghost use Rattle.code_entry.specs.Range.{most_codes, Writable};
-ghost use Rattle.code_cell.specs.Cell.{is_own, entry_names, keys_named, cell_keys, refusal_of};
-ghost use Rattle.code_cell.specs.Count.{marks_end, good_ranges, all_keys, same_range, added as addedTo, survey_of, no_range, stretch, closer as closerOf, closest, order_with, ordered, no_order};
+ghost use Rattle.code_entry.specs.Codes.{most_codes};
+ghost use Rattle.code_cell.specs.Cell.{entries_of, entry_names, is_own, own_keys, cell_keys, checked};
+ghost use Rattle.code_cell.specs.Count.{marks_end, good_ranges, outcome, all_keys, added, bound_of, told, stretch, closer, closest, order_with, ordered, no_order};
 
-use code_entry::{CodeRange, EntryRead, Named};
+use code_entry::CodeRange;
 use dial_code::KEYS_END;
+use refusal::Refusal;
+use std::ops::Range;
 
 // Every code's number is below this.
 const MARKS_END: u64 = 2_000_000_000_000_000;
 
-// The numbers from `low` to below `high`.
+// What the entries of a cell name beside a country cell: from the first on up to the first refused one, or from the last on.
 #[derive(Clone, Copy)]
-pub struct Stretch {
-    pub low: u64,
-    pub high: u64,
+pub struct Entries<'a> {
+    country: &'a [u8],
+    rest: Option<&'a [u8]>,
+    refused: Option<Refusal>,
 }
 
-// A first look at a cell: why the first refused entry is refused, or 0, and a bound of the distinct codes before it.
+impl<'a> Entries<'a> {
+    pub fn new(country: &'a [u8], cell: &'a [u8]) -> Self
+        ensures names { names_left result ≡ entry_names country.now cell.now }
+        ensures none_refused { outcome_left result ≡ outcome (entry_names country.now cell.now) }
+    {
+        Entries {
+            country,
+            rest: Some(cell),
+            refused: None,
+        }
+    }
+}
+
+impl<'a> Iterator for Entries<'a> {
+    type Item = CodeRange;
+
+    ghost next_gives = { GivesFirst };
+
+    ghost remaining = { item_count names_left };
+
+    fn next(&mut self) -> Option<CodeRange> {
+        let cell = self.rest.take()?;
+        match code_entry::read_entry(self.country, cell) {
+            Ok((range, size)) => {
+                // Behind the entry's comma, if it has one.
+                self.rest = cell[size..].get(1..);
+                Some(range)
+            }
+            Err(e) => {
+                self.refused = Some(e);
+                None
+            }
+        }
+    }
+}
+
+impl<'a> DoubleEndedIterator for Entries<'a> {
+    ghost next_back_gives = { GivesLast };
+
+    fn next_back(&mut self) -> Option<CodeRange> {
+        let cell = self.rest.take()?;
+        let (before, last) = split_last(cell);
+        match code_entry::read_entry(self.country, last) {
+            Ok((range, _)) => {
+                self.rest = before;
+                Some(range)
+            }
+            Err(e) => {
+                self.refused = Some(e);
+                None
+            }
+        }
+    }
+}
+
+// Where the last comma stands.
+fn last_comma(cell: &[u8]) -> Option<usize>
+    ensures { MatchOption result (EachIndex cell.now (λ k. slice_index cell.now k ≢ comma)) (λ i. (i < length cell.now) × (slice_index cell.now i ≡ comma) × ((k : ℕ) → i < k → k < length cell.now → slice_index cell.now k ≢ comma)) }
+{
+    cell.iter().rposition(|&b| b == b',')
+}
+
+// The last entry of a cell, and what stands before its comma.
+fn split_last(cell: &[u8]) -> (Option<&[u8]>, &[u8])
+    ensures { (entries_of cell.now ≡ option_map_or (λ s. entries_of s.now) result.0 [] ++ (result.1.now ∷ [])) × (entry_of result.1.now ≡ result.1.now) }
+{
+    match last_comma(cell) {
+        Some(at) => (Some(&cell[..at]), &cell[at + 1..]),
+        None => (None, cell),
+    }
+}
+
+// A first look at a cell: whether all its entries can be read, and a bound of the distinct codes before the first that cannot.
 #[derive(Clone, Copy)]
-pub struct Survey {
-    pub refusal: u64,
-    pub bound: u64,
+struct Survey {
+    answer: Result<(), Refusal>,
+    bound: u64,
 }
 
 // Whether ranges rise or fall, with the last and the first key of the last of them.
 #[derive(Clone, Copy)]
-pub struct Order {
-    pub rises: bool,
-    pub falls: bool,
-    pub top: u64,
-    pub bottom: u64,
+struct Order {
+    rises: bool,
+    falls: bool,
+    top: u64,
+    bottom: u64,
+}
+
+impl Order {
+    // No ranges yet: every key is above 0 and below the keys' end.
+    fn none() -> Self
+        ensures { result ≡ no_order }
+    {
+        Order {
+            rises: true,
+            falls: true,
+            top: 0,
+            bottom: KEYS_END,
+        }
+    }
+
+    // The same with one range more.
+    #[tactic(auto, unfolding(crate::specs::Count::order_with))]
+    fn with(self, range: CodeRange) -> Self
+        ensures { result ≡ order_with self range }
+    {
+        let first = range.first_key();
+        let last = range.last_key();
+        Order {
+            rises: self.rises && self.top < first,
+            falls: self.falls && last < self.bottom,
+            top: last,
+            bottom: first,
+        }
+    }
 }
 
 // Whether all bytes are blanks.
 fn is_blank(cell: &[u8]) -> bool
     ensures { result ≡ every is_blank cell.now }
 {
-    let mut at: usize = 0;
-    while at < cell.len() {
-        if cell[at] != b' ' {
-            return false;
-        }
-        at += 1;
-    }
-    true
+    cell.iter().all(|&b| b == b' ')
 }
 
 // Whether a cell means the country's own code: it is empty or all blanks, and there is a country cell.
+#[tactic(auto, using(crate::proofs::Looks::no_country, crate::proofs::Looks::some_country))]
 pub fn is_own(country: &[u8], cell: &[u8]) -> bool
     ensures { result ≡ is_own country.now cell.now }
 {
-    if country.len() == 0 {
-        return false;
-    }
-    is_blank(cell)
-}
-
-// Whether two ranges are one.
-fn is_same(a: CodeRange, b: CodeRange) -> bool
-    ensures { result ≡ same_range a b }
-{
-    if a.digits != b.digits {
-        return false;
-    }
-    if a.first != b.first {
-        return false;
-    }
-    a.count == b.count
+    !country.is_empty() && is_blank(cell)
 }
 
 // The bound with a range's codes, after one of the entry before.
-fn added(room: usize, bound: u64, before: CodeRange, range: CodeRange) -> u64
-    requires writable { Writable range }
-    requires room_fits { room + most_codes < 2 ^ 64 }
-    ensures { result ≡ addedTo room bound before range }
+#[tactic(auto, unfolding(crate::specs::Count::added, crate::specs::Count::same_range))]
+fn added(room: usize, bound: u64, before: Option<CodeRange>, range: CodeRange) -> u64
+    requires { room + most_codes < 2 ^ 64 }
+    ensures { result ≡ added room bound before range }
 {
-    if (room as u64) < bound {
-        return bound;
-    }
-    if is_same(before, range) {
+    if (room as u64) < bound || before == Some(range) {
         return bound;
     }
     bound + range.count
 }
 
 // Looks at each entry up to the first that is refused.
-fn look_over(country: &[u8], cell: &[u8], room: usize) -> Survey
+#[tactic(auto, unfolding(crate::specs::Count::outcome, crate::specs::Count::bound_of))]
+fn look_over(entries: Entries, room: usize) -> Survey
     requires { room + most_codes < 2 ^ 64 }
-    ensures { result ≡ survey_of room 0 no_range (entry_names country.now cell.now) }
+    ensures { result ≡ told (outcome_left entries.entry) (bound_of room 0 None (ranges_left entries.entry)) }
 {
-    let mut at: usize = 0;
+    let mut left = entries;
     let mut bound: u64 = 0;
-    let mut before = CodeRange {
-        digits: 0,
-        first: 0,
-        count: 0,
-    };
-    loop {
-        match code_entry::read_entry(country, &cell[at..]) {
-            EntryRead::Refused(e) => {
-                return Survey { refusal: e, bound };
-            }
-            EntryRead::Read(range, size) => {
-                bound = added(room, bound, before, range);
-                before = range;
-                at += size;
-                if at == cell.len() {
-                    return Survey { refusal: 0, bound };
-                }
-                at += 1;
-            }
-        }
+    let mut before = None;
+    while let Some(range) = left.next() {
+        bound = added(room, bound, before, range);
+        before = Some(range);
     }
+    let answer = match left.refused {
+        None => Ok(()),
+        Some(e) => Err(e),
+    };
+    Survey { answer, bound }
 }
 
 // Of the stretch found so far and that of a range, the one that starts first from a number on.
-fn closer(from: u64, found: Stretch, range: CodeRange) -> Stretch
-    requires { Writable range }
-    ensures { result ≡ closerOf from found range }
+#[tactic(auto, unfolding(crate::specs::Count::closer))]
+fn closer(from: u64, found: Range<u64>, range: CodeRange) -> Range<u64>
+    ensures { result ≡ closer from found range }
 {
     let low = dial_code::ten_to(range.digits) + range.first;
     let high = low + range.count;
-    if high <= from {
-        return found;
-    }
-    if low < from {
-        if from < found.low {
-            return Stretch { low: from, high };
-        }
-        return found;
-    }
-    if low < found.low {
-        return Stretch { low, high };
+    let start = low.max(from);
+    if from < high && start < found.start {
+        return start..high;
     }
     found
 }
 
-// The first stretch of numbers from one on that entries before the first refused one name.
-fn next_stretch(country: &[u8], cell: &[u8], from: u64) -> Stretch
-    ensures { result ≡ closest from (stretch marks_end marks_end) (good_ranges (entry_names country.now cell.now)) }
+// The first stretch of numbers from one on that entries before the first refused one name; at the numbers' end if there is none.
+#[tactic(auto, unfolding(crate::specs::Count::closest))]
+fn next_stretch(entries: Entries, from: u64) -> Range<u64>
+    ensures { result ≡ closest from (stretch marks_end marks_end) (ranges_left entries.entry) }
 {
-    let mut at: usize = 0;
-    let mut found = Stretch {
-        low: MARKS_END,
-        high: MARKS_END,
-    };
-    loop {
-        match code_entry::read_entry(country, &cell[at..]) {
-            EntryRead::Refused(_) => {
-                return found;
-            }
-            EntryRead::Read(range, size) => {
-                found = closer(from, found, range);
-                at += size;
-                if at == cell.len() {
-                    return found;
-                }
-                at += 1;
-            }
-        }
+    let mut found = MARKS_END..MARKS_END;
+    for range in entries {
+        found = closer(from, found, range);
     }
+    found
 }
 
 // Whether the distinct codes of the entries before the first refused one are no more than a room, counted stretch by stretch.
-fn fits(country: &[u8], cell: &[u8], room: usize) -> bool
-    ensures { result ≡ leb (length (all_keys [] (good_ranges (entry_names country.now cell.now)))) room }
+fn fits(entries: Entries, room: usize) -> bool
+    ensures { result ≡ leb (length (all_keys [] (ranges_left entries.entry))) room }
 {
     let mut from: u64 = 0;
     let mut left = room as u64;
     loop {
-        let next = next_stretch(country, cell, from);
-        if MARKS_END <= next.low {
+        let next = next_stretch(entries, from);
+        if MARKS_END <= next.start {
             return true;
         }
-        if left < next.high - next.low {
+        let codes = next.end - next.start;
+        if left < codes {
             return false;
         }
-        left -= next.high - next.low;
-        from = next.high;
+        left -= codes;
+        from = next.end;
     }
-}
-
-// Whether what held still does, with one number below another.
-fn still(held: bool, a: u64, b: u64) -> bool
-    ensures { result ≡ (held && ltb a b) }
-{
-    if held {
-        return a < b;
-    }
-    false
-}
-
-// The order with one range more.
-fn order_with(order: Order, range: CodeRange) -> Order
-    requires { Writable range }
-    ensures { result ≡ order_with order range }
-{
-    let first = dial_code::key_or_zero(range.digits, range.first);
-    let last = dial_code::key_or_zero(range.digits, range.first + (range.count - 1));
-    let rises = still(order.rises, order.top, first);
-    let falls = still(order.falls, last, order.bottom);
-    Order {
-        rises,
-        falls,
-        top: last,
-        bottom: first,
-    }
-}
-
-fn is_either(order: Order) -> bool
-    ensures { result ≡ (order.rises || order.falls) }
-{
-    if order.rises {
-        return true;
-    }
-    order.falls
 }
 
 // Whether the entries before the first refused one rise, or fall: then no code is named twice.
-fn is_ordered(country: &[u8], cell: &[u8]) -> bool
-    ensures { result ≡ ordered no_order (good_ranges (entry_names country.now cell.now)) }
+#[tactic(auto, unfolding(crate::specs::Count::ordered))]
+fn is_ordered(entries: Entries) -> bool
+    ensures { result ≡ ordered no_order (ranges_left entries.entry) }
 {
-    let mut at: usize = 0;
-    let mut order = Order {
-        rises: true,
-        falls: true,
-        top: 0,
-        bottom: KEYS_END,
-    };
-    loop {
-        match code_entry::read_entry(country, &cell[at..]) {
-            EntryRead::Refused(_) => {
-                return is_either(order);
-            }
-            EntryRead::Read(range, size) => {
-                order = order_with(order, range);
-                at += size;
-                if at == cell.len() {
-                    return is_either(order);
-                }
-                at += 1;
-            }
-        }
+    let mut order = Order::none();
+    for range in entries {
+        order = order.with(range);
     }
+    order.rises || order.falls
 }
 
-// Why the country's own code is refused, or 0.
-fn own_refusal(country: &[u8], room: usize) -> u64
-    ensures { result ≡ refusal_of (keys_named room [] (own_code country.now ∷ [])) }
+// Whether the country's own code can be used, with so much room.
+fn check_own(country: &[u8], room: usize) -> Result<(), Refusal>
+    ensures { result ≡ checked (own_keys country.now room) }
 {
-    match code_entry::own_code(country) {
-        Named::Refused(e) => e,
-        Named::Codes(_) => {
-            if room == 0 {
-                return refusal::KEYS_TOO_MANY;
-            }
-            0
-        }
+    code_entry::own_code(country)?;
+    if room == 0 {
+        return Err(Refusal::KeysTooMany);
     }
+    Ok(())
 }
 
-// Why a cell is refused beside a country cell, with a slice lent for its keys; or 0.
-pub fn cell_refusal(country: &[u8], cell: &[u8], keys: &[u64]) -> u64
-    ensures { result ≡ refusal_of (cell_keys country.now cell.now (length keys.now)) }
+// Whether a cell can be used beside a country cell, with a slice lent for its keys; or why not.
+pub fn check_cell(country: &[u8], cell: &[u8], keys: &[u64]) -> Result<(), Refusal>
+    ensures { result ≡ checked (cell_keys country.now cell.now (length keys.now)) }
 {
+    let room = keys.len();
     if is_own(country, cell) {
-        return own_refusal(country, keys.len());
+        return check_own(country, room);
     }
-    let survey = look_over(country, cell, keys.len());
-    if survey.bound <= keys.len() as u64 {
-        return survey.refusal;
+    let entries = Entries::new(country, cell);
+    let survey = look_over(entries, room);
+    if survey.bound <= room as u64 {
+        return survey.answer;
     }
-    if is_ordered(country, cell) {
-        return refusal::KEYS_TOO_MANY;
+    if !is_ordered(entries) && fits(entries, room) {
+        return survey.answer;
     }
-    if fits(country, cell, keys.len()) {
-        return survey.refusal;
-    }
-    refusal::KEYS_TOO_MANY
+    Err(Refusal::KeysTooMany)
 }

@@ -1,6 +1,6 @@
 -- Which codes are allowed, by their count of digits and their value. Assumes nothing.
 use mathlib.Core.Path.{◌≡◌, refl, ap, sym, ◌∙◌}
-use mathlib.Core.Bool.{Bool, true, false, false≢true, cond, not}
+use mathlib.Core.Bool.{Bool, true, false, false≢true, cond, not, ◌||◌}
 use mathlib.Core.List.{List, [], ◌∷◌}
 use Prim.Native.Nat.{ℕ, zero, suc, ◌+◌, ◌-◌, ◌*◌, ◌/◌, ◌%◌, ◌^◌, ◌≤◌, ◌<◌}
 use native.Mathlib.Nat.{pow-succ', one-le-pow, mod-eq_of_lt, div-eq_of_lt, div-lt_iff_lt-mul, le-div_iff_mul-le}
@@ -8,10 +8,8 @@ use native.Mathlib.Omega.{arith}
 use borrow.Author.Tests.{le-leb, lt-leb, lt-ltb}
 use lib.Dec.{eqb, leb, lit<, lit≤}
 use lib.ListN.{length}
-use Rattle.refusal.specs.Refusal.{out_of_range, code_not_allowed}
 use Rattle.dial_code.specs.Digits.{digits, every, is_digit, is_number, is_written}
 use Rattle.dial_code.specs.Key.{key}
-use Rattle.dial_code.specs.declared.Keyed.TheVariants.{Key, Refused}
 use Rattle.country_code.specs.CountryCode.{country_digits, one_digit, two_digits}
 use Rattle.allowed_code.specs.Code.{is_code, sent_code_key}
 use Rattle.dial_code.proofs.DigitLaws.{length_digits, digits_are, zero_first, number_cons, number_facts, digits_value}
@@ -20,6 +18,9 @@ use Rattle.allowed_code.proofs.CodeLaws.{country_test}
 use Rattle.allowed_code.proofs.SentCodes.{sent_test}
 use Rattle.code_entry.specs.Scan.{digits_of}
 use Rattle.code_entry.proofs.Counting.{counted, counted_few, counted_many}
+use Rattle.refusal.specs.declared.Refusal.TheVariants.{CodeNotAllowed, OutOfRange}
+use Rattle.std.proofs.Common.{Ok, Err}
+use Rattle.std.specs.Result.{is_ok}
 
 -- What an allowed code shows: at most 15 digits, and all are.
 pub code_facts : (ds : List ℕ) → is_code ds ≡ true → (length ds ≤ 15) × (every is_digit ds ≡ true)
@@ -99,33 +100,28 @@ alike_eq true b e = sym e
 alike_eq false true e = e
 alike_eq false false e = refl
 
-pub one_digit_law : (k v : ℕ) → k ≡ 1 → v < 10 ^ k → is_code (digits k v) ≡ cond (eqb v 1) true (eqb v 7)
+pub one_digit_law : (k v : ℕ) → k ≡ 1 → v < 10 ^ k → is_code (digits k v) ≡ (eqb v 1 || eqb v 7)
 unfolding all_below alike is_code digits
 one_digit_law k v e h =
     rw e
     (alike_eq _ _
-    (each_below (λ (u : ℕ). alike (is_code (digits 1 u)) (cond (eqb u 1) true (eqb u 7))) 10 refl v (rw e at h)))
+    (each_below (λ (u : ℕ). alike (is_code (digits 1 u)) (eqb u 1 || eqb u 7)) 10 refl v (rw e at h)))
 
--- A code that is sent has a key where it is allowed.
-module _ (k v : ℕ) where
-  pub sent_key : (w : ℕ) → sent_code_key k v ≡ Key w → is_code (digits k v) ≡ true
-  sent_key w q = go (is_written k v) (is_code (digits k v)) (sym (sent_test k v) ∙ q)
-    where
-      go : (t u : Bool) → cond t (cond u (Key (key (digits k v))) (Refused code_not_allowed)) (Refused out_of_range) ≡ Key w → u ≡ true
-      go true true r = refl
-      go true false r = let z : ◌≡◌ {A = ℕ} 0 1 = cc in absurd (omega arith)
-      go false u r = let z : ◌≡◌ {A = ℕ} 0 1 = cc in absurd (omega arith)
+-- A code has a key as one that is sent where it is allowed.
+pub sent_law : (k v : ℕ) → k ≤ 15 → v < 10 ^ k → is_ok (sent_code_key k v) ≡ is_code (digits k v)
+unfolding is_written
+sent_law k v m l = ap is_ok (sent_test k v) ∙ go (is_code (digits k v)) refl (is_written k v) refl
+  where
+    written : is_code (digits k v) ≡ true → is_written k v ≡ true
+    written t =
+        rw (le-leb 1 k (omega (arith, code_some (digits k v) t, length_digits k v)), le-leb k 15 m) (lt-ltb v (10 ^ k) l)
 
-  pub sent_refused : (e : ℕ) → k ≤ 15 → v < 10 ^ k → sent_code_key k v ≡ Refused e → is_code (digits k v) ≡ false
-  unfolding is_written
-  sent_refused e m l q = refuted (is_code (digits k v)) (λ t. no t (sym (sent_test k v ∙ rw (written t, t)) ∙ q))
-    where
-      written : is_code (digits k v) ≡ true → is_written k v ≡ true
-      written t =
-          rw (le-leb 1 k (omega (arith, code_some (digits k v) t, length_digits k v)), le-leb k 15 m) (lt-ltb v (10 ^ k) l)
-
-      no : is_code (digits k v) ≡ true → Key (key (digits k v)) ≡ Refused e → ⊥
-      no t r = let z : ◌≡◌ {A = ℕ} 0 1 = cc in omega arith
+    go : (u : Bool) → is_code (digits k v) ≡ u → (t : Bool) → is_written k v ≡ t
+        → is_ok (cond t (cond u (Ok (key (digits k v))) (Err CodeNotAllowed)) (Err OutOfRange)) ≡ u
+    go true e true w = refl
+    go true e false w = absurd (false≢true (sym w ∙ written e))
+    go false e true w = refl
+    go false e false w = refl
 
 -- Digits that are counted are an allowed code where the list is; and its digits are then the list's.
 pub counted_digits : (ds : List ℕ) → is_code ds ≡ true → digits_of (counted ds) ≡ ds
@@ -138,3 +134,9 @@ counted_code ds e =
       | equal h ↦ rw (counted_many ds (omega arith)) (over_long 16 0 (lit< tt) ∙ sym (too_long ds (omega arith)))
       | above h ↦ rw (counted_many ds (omega arith)) (over_long 16 0 (lit< tt) ∙ sym (too_long ds (omega arith)))
     ]
+
+-- No digits are no code.
+pub no_digit : (k v : ℕ) → k < 1 → is_code (digits k v) ≡ false
+unfolding digits is_code is_number
+no_digit zero v h = refl
+no_digit (suc k) v h = absurd (omega arith)

@@ -4,17 +4,16 @@ use mathlib.Core.Bool.{true, false, cond}
 use mathlib.Core.List.{List, [], ◌∷◌, ◌++◌, map, append_assoc, append-nil}
 use Prim.Native.Nat.{ℕ, suc, ◌+◌, ◌-◌, ◌*◌, ◌^◌, ◌≤◌, ◌<◌}
 use native.Mathlib.Nat.{pow-suc, pow-le-pow_right, mul_assoc}
-use native.Mathlib.Numerals.{add-one}
 use native.Mathlib.Omega.{arith}
 use borrow.Author.Tests.{lt-ltb, le-ltb, le-leb, lt-leb}
 use lib.Dec.{leb, lit<}
 use lib.ListN.{length, get_or, drop, length-append}
-use Rattle.dial_code.specs.Digits.{is_ascii, digit_of, value}
+use Rattle.dial_code.specs.Digits.{every, is_ascii, is_digit, digit_of, value}
 use Rattle.dial_code.specs.declared.Code.{Code}
+use Rattle.dial_code.proofs.DigitLaws.{value_below}
 use Rattle.dial_code.proofs.Tests.{below, equal, above, order}
 use Rattle.code_entry.specs.Entry.{leading}
-use Rattle.code_entry.specs.Scan.{code_with, Held, pushed, pushed_all, run_of}
-use Rattle.code_entry.specs.declared.Run.{Run}
+use Rattle.code_entry.specs.Scan.{code_with, pushed, pushed_all, run_of}
 use Rattle.code_entry.proofs.Scanning.{none_left, stops, passes}
 
 -- One digit more, by the test of the code: the value does not wrap, and is one that so many digits can write.
@@ -27,18 +26,8 @@ module _ (c : Code) (d : ℕ) where
   unfolding pushed
   push_none h = rw (le-ltb c.count 15 h)
 
-  pub push_fits : Held c → d < 10 → c.count < 15 → c.value * 10 + d < 10 ^ 15
-  push_fits v l h = omega (arith, pow-le-pow_right {n = 10} (lit< tt) {i = c.count} {j = 14} (omega arith))
-
-  pub push_held : Held c → d < 10 → Held (pushed c d)
-  push_held v l =
-      elim (order c.count 15) [
-        | below h ↦
-            let p : c.value * 10 + d < 10 ^ (c.count + 1) = rw (add-one, pow-suc) (omega arith) in
-            rw (push_more h) p
-        | equal h ↦ rw (push_none (omega arith)) (lit< tt)
-        | above h ↦ rw (push_none (omega arith)) (lit< tt)
-      ]
+pub push_fits : (k v d : ℕ) → v < 10 ^ k → d < 10 → k < 15 → v * 10 + d < 10 ^ 15
+push_fits k v d p l h = omega (arith, pow-le-pow_right {n = 10} (lit< tt) {i = k} {j = 14} (omega arith))
 
 -- The digits of a list, counted; by how many they are.
 unfoldable pub counted : List ℕ → Code
@@ -90,22 +79,31 @@ counted_all ds (b ∷ s) =
     ∙ counted_all (ds ++ (digit_of b ∷ [])) s
     ∙ ap counted (append_assoc ds (digit_of b ∷ []) (map digit_of s))
 
--- The digits from a position on: no more, or one more.
-abbrev run_with : Code → ℕ → Run
-run_with c n = record { code = c; next = n }
+-- Digits that are counted have a value that so many digits can write.
+pub counted_below : (ds : List ℕ) → every is_digit ds ≡ true → (counted ds).value < 10 ^ (counted ds).count
+counted_below ds e =
+    elim (order (length ds) 16) [
+      | below h ↦ rw (counted_few ds (omega arith)) (value_below ds e)
+      | equal h ↦ rw (counted_many ds (omega arith)) (lit< tt)
+      | above h ↦ rw (counted_many ds (omega arith)) (lit< tt)
+    ]
 
-module _ (c : Code) (s : List ℕ) (at : ℕ) where
-  run_none : leading is_ascii (drop at s) ≡ [] → run_of c at (drop at s) ≡ record { code = c; next = at }
+-- The digits from a place of some bytes on: no more, or one more.
+module _ (c : Code) (s : List ℕ) (i at : ℕ) where
+  run_none : leading is_ascii (drop i s) ≡ [] → run_of c at (drop i s) ≡ (c, at)
   unfolding run_of pushed_all
-  run_none e = rw e (ap (run_with c) (omega arith))
+  run_none e = rw e (ap (λ (n : ℕ). (c, n)) (omega arith))
 
-  pub run_ends : length s ≤ at → run_of c at (drop at s) ≡ record { code = c; next = at }
-  run_ends h = run_none (none_left is_ascii s at h)
+  pub run_ends : length s ≤ i → run_of c at (drop i s) ≡ (c, at)
+  run_ends h = run_none (none_left is_ascii s i h)
 
-  module _ (b : ℕ) (h : at < length s) (q : b ≡ get_or s at 0) where
-    pub run_stops : is_ascii b ≡ false → run_of c at (drop at s) ≡ record { code = c; next = at }
-    run_stops e = run_none (stops is_ascii s at h (ap is_ascii (sym q) ∙ e))
+  pub run_stops : i < length s → is_ascii (get_or s i 0) ≡ false → run_of c at (drop i s) ≡ (c, at)
+  run_stops h e = run_none (stops is_ascii s i h e)
 
-    pub run_goes : is_ascii b ≡ true → run_of c at (drop at s) ≡ run_of (pushed c (b - 48)) (at + 1) (drop (at + 1) s)
-    unfolding run_of pushed_all
-    run_goes e = rw (passes is_ascii s at h (ap is_ascii (sym q) ∙ e), q) (ap (run_with _) (omega arith))
+  pub run_goes : i < length s → is_ascii (get_or s i 0) ≡ true
+      → run_of c at (drop i s) ≡ run_of (pushed c (get_or s i 0 - 48)) (at + 1) (drop (i + 1) s)
+  unfolding run_of pushed_all
+  run_goes h e =
+      let n : at + suc (length (leading is_ascii (drop (i + 1) s))) ≡ at + 1 + length (leading is_ascii (drop (i + 1) s)) =
+      omega arith in
+      rw (passes is_ascii s i h e) (ap (λ (m : ℕ). (pushed_all (pushed c (get_or s i 0 - 48)) (leading is_ascii (drop (i + 1) s)), m)) n)

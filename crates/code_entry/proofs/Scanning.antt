@@ -7,13 +7,25 @@ use native.Mathlib.Omega.{arith}
 use native.Mathlib.Numerals.{add-one}
 use borrow.Author.Tests.{ne_eqb}
 use lib.Dec.{eqb}
-use lib.ListN.{length, get_or, drop, drop_of_length-le}
+use lib.ListN.{length, get_or, get_or-eq_default, drop, drop_of_length-le}
 use lib.Seq.{drop-cons, drop-drop}
+use Rattle.std.specs.List.{prefix_len}
 use Rattle.dial_code.specs.Digits.{every}
-use Rattle.code_entry.specs.Entry.{leading, after, entry_of, is_blank, is_no_comma, comma}
+use Rattle.dial_code.proofs.Tests.{below, equal, above, order}
+use Rattle.code_entry.specs.Entry.{leading, after, entry_of, is_blank, is_no_comma, comma, dash}
 use Rattle.code_entry.specs.Scan.{is_end}
 
 module _ (f : ℕ → Bool) where
+  -- How many bytes pass.
+  pub length_leading : (s : List ℕ) → prefix_len f s ≡ length (leading f s)
+  unfolding leading
+  length_leading [] = refl
+  length_leading (b ∷ s) = go (length_leading s) (f b)
+    where
+      go : prefix_len f s ≡ length (leading f s) → (t : Bool) → cond t (1 + prefix_len f s) 0 ≡ length (cond t (b ∷ leading f s) [])
+      go i true = omega arith
+      go i false = refl
+
   -- No more bytes pass than there are.
   pub leading_most : (s : List ℕ) → length (leading f s) ≤ length s
   unfolding leading
@@ -147,3 +159,15 @@ module _ (s : List ℕ) (at : ℕ) where
   pub end_byte : at < length s → is_end (drop at s) ≡ eqb (get_or s at 0) comma
   unfolding is_end
   end_byte h = rw (drop-cons s at 0 h)
+
+-- No byte of another value than 0 stands past the end.
+pub none_there : (s : List ℕ) (at : ℕ) → length s ≤ at → eqb (get_or s at 0) dash ≡ false
+none_there s at h = rw (get_or-eq_default s 0 {n = at} h)
+
+pub dash_there : (s : List ℕ) (at : ℕ) → eqb (get_or s at 0) dash ≡ true → at < length s
+dash_there s at e =
+    elim (order at (length s)) [
+      | below l ↦ l
+      | equal l ↦ absurd (false≢true (sym (none_there s at (omega arith)) ∙ e))
+      | above l ↦ absurd (false≢true (sym (none_there s at (omega arith)) ∙ e))
+    ]

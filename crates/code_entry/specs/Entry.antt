@@ -1,14 +1,13 @@
 -- One entry of a cell of codes, as suppliers type them (document 02, request 1).
-use Rattle.std.specs.Prelude.{◌≡◌, refl, Bool, true, false, cond, ◌&&◌, not, List, [], ◌∷◌, ◌++◌, map, ℕ, ◌+◌, ◌-◌, eqb, leb, length, replicate}
-use Rattle.refusal.specs.Refusal.{entry_not_allowed, range_not_allowed}
+use Rattle.std.specs.Prelude.{◌≡◌, refl, Bool, true, false, cond, ◌&&◌, not, List, [], ◌∷◌, ◌++◌, map, ℕ, ◌+◌, ◌-◌, eqb, leb, length, replicate, Result, Ok, Err}
 use Rattle.dial_code.specs.Digits.{every, is_ascii, digit_of, digits, value}
 use Rattle.allowed_code.specs.Code.{is_code}
-use Rattle.code_entry.specs.Range.{range_of, range_codes, most_codes}
+use Rattle.code_entry.specs.Codes.{most_codes}
+use Rattle.code_entry.specs.Range.{range_of, range_codes}
 use Rattle.code_entry.specs.declared.CodeRange.{CodeRange}
-use Rattle.code_entry.specs.declared.EntryRead.{EntryRead}
-use Rattle.code_entry.specs.declared.EntryRead.TheVariants as entry
-use Rattle.code_entry.specs.declared.Named.{Named}
-use Rattle.code_entry.specs.declared.Named.TheVariants.{Codes, Refused}
+use Rattle.refusal.specs.declared.Refusal.TheVariants.{EntryNotAllowed, RangeNotAllowed}
+use Rattle.refusal.specs.Steps.{Read, ok_at}
+use Rattle.refusal.specs.declared.Refusal.{Refusal}
 
 -- the bytes of a cell that are no digits
 abbrev pub blank : ℕ
@@ -80,47 +79,47 @@ all_codes [] = true
 all_codes (ds ∷ dss) = is_code ds && all_codes dss
 
 -- One code, where it is allowed.
-unfoldable pub one_code : Bool → List ℕ → Named
+unfoldable pub one_code : Bool → List ℕ → Result CodeRange Refusal
 unfolding value
-one_code allowed ds = cond allowed (Codes (range_of (length ds) (value ds) 1)) (Refused entry_not_allowed)
+one_code allowed ds = cond allowed (Ok (range_of (length ds) (value ds) 1)) (Err EntryNotAllowed)
 
 -- A range: its ends allowed, of one length and not falling; every code of it allowed; at most 1,000 of them.
-unfoldable pub whole_range : CodeRange → Named
+unfoldable pub whole_range : CodeRange → Result CodeRange Refusal
 unfolding range_codes is_code
 whole_range r =
-    cond (all_codes (range_codes r)) (cond (leb r.count most_codes) (Codes r) (Refused range_not_allowed)) (Refused entry_not_allowed)
+    cond (all_codes (range_codes r)) (cond (leb r.count most_codes) (Ok r) (Err RangeNotAllowed)) (Err EntryNotAllowed)
 
-unfoldable pub code_range : Bool → List ℕ → List ℕ → Named
+unfoldable pub code_range : Bool → List ℕ → List ℕ → Result CodeRange Refusal
 unfolding whole_range value
 code_range allowed ds es =
     cond allowed
     (cond (eqb (length ds) (length es) && leb (value ds) (value es))
     (whole_range (range_of (length ds) (value ds) (value es + 1 - value ds)))
-    (Refused range_not_allowed))
-    (Refused entry_not_allowed)
+    (Err RangeNotAllowed))
+    (Err EntryNotAllowed)
 
-unfoldable pub typed_codes : List ℕ → Typed → Named
+unfoldable pub typed_codes : List ℕ → Typed → Result CodeRange Refusal
 unfolding one_code code_range is_typed
 typed_codes c (Single a) = one_code (is_typed c a) (code_of c a)
 typed_codes c (Joined a b) = code_range (is_typed c a && is_typed c b) (code_of c a) (code_of c b)
-typed_codes c Stray = Refused entry_not_allowed
+typed_codes c Stray = Err EntryNotAllowed
 
 -- What an entry names beside a country cell, whose digits go before every code: 50, 51.
-unfoldable pub entry_codes : List ℕ → List ℕ → Named
+unfoldable pub entry_codes : List ℕ → List ℕ → Result CodeRange Refusal
 unfolding typed_codes typed
-entry_codes c e = cond (every is_ascii c) (typed_codes (map digit_of c) (typed e)) (Refused entry_not_allowed)
+entry_codes c e = cond (every is_ascii c) (typed_codes (map digit_of c) (typed e)) (Err EntryNotAllowed)
 
 -- The same of the entry at the front of a cell, with how many bytes it takes, up to its comma or the end.
-abbrev pub sized : Named → ℕ → EntryRead
-sized (Codes r) n = entry.Read r n
-sized (Refused e) n = entry.Refused e
+abbrev pub sized : Result CodeRange Refusal → ℕ → Read CodeRange
+sized (Ok r) n = ok_at r n
+sized (Err e) n = Err e
 
-unfoldable pub read_entry : List ℕ → List ℕ → EntryRead
+unfoldable pub read_entry : List ℕ → List ℕ → Read CodeRange
 unfolding entry_codes entry_of
 read_entry c s = sized (entry_codes c (entry_of s)) (length (entry_of s))
 
 -- The country's own code, which a cell that is empty or all blanks means: 50.
-unfoldable pub own_code : List ℕ → Named
+unfoldable pub own_code : List ℕ → Result CodeRange Refusal
 unfolding one_code is_code
 own_code c = one_code (every is_ascii c && is_code (map digit_of c)) (map digit_of c)
 
@@ -189,7 +188,7 @@ not_allowed :
     ∷ entry_codes [] (num 16 1)
     ∷ entry_codes (num 3 213) (num 13 1)
     ∷ []
-    ≡ replicate 11 (Refused 50)
+    ≡ replicate 11 (Err EntryNotAllowed)
 unfolding entry_codes digits
 not_allowed = refl
 
@@ -203,13 +202,13 @@ allowed :
     ∷ entry_codes (num 1 1) (span 3 0 3 999)
     ∷ entry_codes [] (span 2 43 2 46)
     ∷ []
-    ≡ Codes (range_of 1 1 1)
-    ∷ Codes (range_of 15 999999999999999 1)
-    ∷ Codes (range_of 5 21361 1)
-    ∷ Codes (range_of 5 21307 6)
-    ∷ Codes (range_of 4 2137 1)
-    ∷ Codes (range_of 4 1000 1000)
-    ∷ Codes (range_of 2 43 4)
+    ≡ Ok (range_of 1 1 1)
+    ∷ Ok (range_of 15 999999999999999 1)
+    ∷ Ok (range_of 5 21361 1)
+    ∷ Ok (range_of 5 21307 6)
+    ∷ Ok (range_of 4 2137 1)
+    ∷ Ok (range_of 4 1000 1000)
+    ∷ Ok (range_of 2 43 4)
     ∷ []
 unfolding entry_codes digits
 allowed = refl
@@ -227,15 +226,15 @@ ranges :
     ∷ entry_codes [] (span 2 20 2 27)
     ∷ entry_codes [] (span 4 1000 4 2000)
     ∷ []
-    ≡ Refused 51
-    ∷ Refused 51
-    ∷ Refused 51
-    ∷ Refused 50
-    ∷ Refused 50
-    ∷ Refused 51
-    ∷ Refused 50
-    ∷ Refused 50
-    ∷ Refused 51
+    ≡ Err RangeNotAllowed
+    ∷ Err RangeNotAllowed
+    ∷ Err RangeNotAllowed
+    ∷ Err EntryNotAllowed
+    ∷ Err EntryNotAllowed
+    ∷ Err RangeNotAllowed
+    ∷ Err EntryNotAllowed
+    ∷ Err EntryNotAllowed
+    ∷ Err RangeNotAllowed
     ∷ []
 unfolding entry_codes digits
 ranges = refl
@@ -243,13 +242,13 @@ ranges = refl
 -- `61 ,7` takes three bytes; `,`
 read :
     read_entry (num 3 213) (num 2 61 ++ (blank ∷ comma ∷ num 1 7)) ∷ read_entry (num 3 213) (comma ∷ []) ∷ []
-    ≡ entry.Read (range_of 5 21361 1) 3 ∷ entry.Refused 50 ∷ []
+    ≡ ok_at (range_of 5 21361 1) 3 ∷ Err EntryNotAllowed ∷ []
 unfolding read_entry digits
 read = refl
 
 -- 355 by itself; 2 is not allowed, nor is no country
 own :
     own_code (num 3 355) ∷ own_code (num 1 2) ∷ own_code [] ∷ own_code (num 3 355 ++ (blank ∷ [])) ∷ []
-    ≡ Codes (range_of 3 355 1) ∷ Refused 50 ∷ Refused 50 ∷ Refused 50 ∷ []
+    ≡ Ok (range_of 3 355 1) ∷ Err EntryNotAllowed ∷ Err EntryNotAllowed ∷ Err EntryNotAllowed ∷ []
 unfolding own_code digits
 own = refl

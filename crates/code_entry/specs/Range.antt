@@ -1,6 +1,6 @@
 -- A range of codes: its ends and all codes of their length between (document 02, request 1).
-use Rattle.std.specs.Prelude.{◌≡◌, refl, List, [], ◌∷◌, map, ℕ, zero, suc, ◌+◌, ◌^◌, ◌≤◌}
-use Rattle.dial_code.specs.Digits.{most_digits, digits}
+use Rattle.std.specs.Prelude.{◌≡◌, refl, List, [], ◌∷◌, map, ℕ, zero, suc, ◌+◌, ◌-◌}
+use Rattle.dial_code.specs.Digits.{digits}
 use Rattle.dial_code.specs.Key.{key}
 use Rattle.code_entry.specs.declared.CodeRange.{CodeRange}
 
@@ -26,17 +26,12 @@ range_keys r = map key (range_codes r)
 abbrev pub keys_from : ℕ → ℕ → ℕ → List ℕ
 keys_from k v n = map key (codes_from k v n)
 
--- a range has at most so many codes
-abbrev pub most_codes : ℕ
-most_codes = 1000
+-- The keys of a range's first and last code.
+abbrev pub first_key : CodeRange → ℕ
+first_key r = key (digits r.digits r.first)
 
--- A range that can be written: of 1 to 15 digits, with one code at least and 1,000 at most, all of them values of so many digits.
-pub record Writable (r : CodeRange) : Type 0 where
-  pub some : 1 ≤ r.digits
-  pub few : r.digits ≤ most_digits
-  pub least : 1 ≤ r.count
-  pub most : r.count ≤ most_codes
-  pub within : r.first + r.count ≤ 10 ^ r.digits
+abbrev pub last_key : CodeRange → ℕ
+last_key r = key (digits r.digits (r.first + (r.count - 1)))
 
 -- 2137 and 2138; 098 to 101; one code; none
 ranges :
@@ -52,3 +47,7 @@ ranges = refl
 keys : range_keys (range_of 4 2137 2) ≡ key (2 ∷ 1 ∷ 3 ∷ 7 ∷ []) ∷ key (2 ∷ 1 ∷ 3 ∷ 8 ∷ []) ∷ []
 unfolding range_keys
 keys = refl
+
+ends : first_key (range_of 4 2137 2) ∷ last_key (range_of 4 2137 2) ∷ [] ≡ range_keys (range_of 4 2137 2)
+unfolding range_keys
+ends = refl

@@ -1,14 +1,15 @@
 -- What the scan of a cell finds: digits as they are counted one after the other, and the bytes after a code.
-use Rattle.std.specs.Prelude.{◌≡◌, refl, Bool, true, cond, ◌&&◌, List, [], ◌∷◌, ℕ, ◌+◌, ◌*◌, ◌^◌, ◌<◌, eqb, ltb, length, drop}
-use Rattle.refusal.specs.Refusal.{entry_not_allowed}
+use Rattle.std.specs.Prelude.{◌≡◌, refl, Bool, true, cond, ◌&&◌, List, [], ◌∷◌, ℕ, ◌+◌, ◌*◌, eqb, ltb, length, drop, get_or, Result, Ok, Err}
+use Rattle.std.specs.List.{prefix_len}
 use Rattle.dial_code.specs.Digits.{most_digits, every, is_ascii, digit_of, digits}
 use Rattle.dial_code.specs.declared.Code.{Code}
 use Rattle.allowed_code.specs.Code.{is_code}
-use Rattle.code_entry.specs.Entry.{leading, after, entry_of, is_blank, comma, dash, is_some, one_code, code_range, sized}
-use Rattle.code_entry.specs.declared.EntryRead.{EntryRead}
-use Rattle.code_entry.specs.declared.Named.{Named}
-use Rattle.code_entry.specs.declared.Named.TheVariants.{Refused}
-use Rattle.code_entry.specs.declared.Run.{Run}
+use Rattle.code_entry.specs.Entry.{leading, is_blank, comma, dash, is_some, code_range}
+use Rattle.code_entry.specs.Range.{range_of}
+use Rattle.code_entry.specs.declared.CodeRange.{CodeRange}
+use Rattle.refusal.specs.declared.Refusal.TheVariants.{EntryNotAllowed}
+use Rattle.refusal.specs.Steps.{◌>>=◌, Read, ok_at}
+use Rattle.refusal.specs.declared.Refusal.{Refusal}
 
 -- So many digits, with their value; and the digits of such a code.
 abbrev pub code_with : ℕ → ℕ → Code
@@ -16,10 +17,6 @@ code_with k v = record { count = k; value = v }
 
 abbrev pub digits_of : Code → List ℕ
 digits_of c = digits c.count c.value
-
--- A code whose value so many digits can write.
-abbrev pub Held : Code → Type 0
-Held c = c.value < 10 ^ c.count
 
 -- One digit more; after 15 the code is too long, whatever follows.
 unfoldable pub pushed : Code → ℕ → Code
@@ -32,34 +29,54 @@ pushed_all c [] = c
 pushed_all c (b ∷ s) = pushed_all (pushed c (digit_of b)) s
 
 -- The same of the first bytes that are digits, with where they end.
-unfoldable pub run_of : Code → ℕ → List ℕ → Run
+unfoldable pub run_of : Code → ℕ → List ℕ → Code × ℕ
 unfolding pushed_all leading
-run_of c at s = record { code = pushed_all c (leading is_ascii s); next = at + length (leading is_ascii s) }
+run_of c at s = (pushed_all c (leading is_ascii s), at + length (leading is_ascii s))
 
 -- Whether an entry is over: the cell ends, or a comma stands next.
 unfoldable pub is_end : List ℕ → Bool
 is_end [] = true
 is_end (b ∷ s) = eqb b comma
 
--- What a rule makes of the entry from a position of a cell on, with where it ends.
-abbrev pub sized_from : (List ℕ → Named) → ℕ → List ℕ → EntryRead
-sized_from f at s = sized (f (entry_of (drop at s))) (at + length (entry_of (drop at s)))
+-- The digits of a country cell that holds nothing else.
+unfoldable pub country_digits : List ℕ → Result Code Refusal
+unfolding pushed_all
+country_digits c = cond (every is_ascii c) (Ok (pushed_all (code_with 0 0) c)) (Err EntryNotAllowed)
 
--- What the bytes after the dash make of an allowed first code; and what the bytes after the code itself do.
-unfoldable pub second_part : Code → Code → List ℕ → Named
-unfolding leading after pushed_all digits is_code code_range
-second_part own first s =
-    cond (every is_blank (after is_ascii s))
-    (code_range (is_some (leading is_ascii s) && is_code (digits_of (pushed_all own (leading is_ascii s)))) (digits_of first)
-    (digits_of (pushed_all own (leading is_ascii s))))
-    (Refused entry_not_allowed)
+-- A code that is typed at a position behind the country's digits, and allowed, with where it ends.
+unfoldable pub typed_code : Code → List ℕ → ℕ → Read Code
+unfolding leading pushed_all digits is_code
+typed_code own s at =
+    cond (is_some (leading is_ascii (drop at s)) && is_code (digits_of (pushed_all own (leading is_ascii (drop at s)))))
+    (ok_at (pushed_all own (leading is_ascii (drop at s))) (at + length (leading is_ascii (drop at s))))
+    (Err EntryNotAllowed)
 
-unfoldable pub after_first : Code → Code → List ℕ → Named
-unfolding second_part one_code digits
-after_first own first [] = one_code true (digits_of first)
-after_first own first (b ∷ s) =
-    cond (eqb b dash) (second_part own first s)
-    (cond (every is_blank (b ∷ s)) (one_code true (digits_of first)) (Refused entry_not_allowed))
+-- Where an entry ends, if blanks alone stand from a position to its end.
+unfoldable pub entry_end : List ℕ → ℕ → Result ℕ Refusal
+unfolding is_end
+entry_end s at =
+    cond (is_end (drop (at + prefix_len is_blank (drop at s)) s)) (Ok (at + prefix_len is_blank (drop at s)))
+    (Err EntryNotAllowed)
+
+-- The range from an allowed first code to the code at a position, with where its entry ends.
+unfoldable pub typed_range : Code → Code → List ℕ → ℕ → Read CodeRange
+unfolding typed_code entry_end digits code_range
+typed_range own first s at = do
+  (last, next) ← typed_code own s at
+  end ← entry_end s next
+  range ← code_range true (digits_of first) (digits_of last)
+  ok_at range end
+
+-- The entry at the front of a cell, step by step.
+unfoldable pub scanned : List ℕ → List ℕ → Read CodeRange
+unfolding country_digits typed_code entry_end typed_range
+scanned c s = do
+  own ← country_digits c
+  (first, at) ← typed_code own s (prefix_len is_blank s)
+  cond (eqb (get_or s at 0) dash) (typed_range own first s (at + 1))
+      (do
+        end ← entry_end s at
+        ok_at (range_of first.count first.value 1) end)
 
 -- fifteen digits, and one more, which stays
 counts :

@@ -1,294 +1,277 @@
 // One entry of a cell of codes, as suppliers type them (document 02, request 1): a code or a range of codes.
 #![tactic(auto)]
 
-ghost use Rattle.std.specs.Prelude.{◌≡◌, true, ◌+◌, ◌^◌, ◌≤◌, ◌<◌, length, drop};
+ghost use Rattle.std.specs.Prelude.{◌≡◌, true, ◌+◌, ◌^◌, ◌≤◌, ◌<◌, length, drop, eqb, get_or};
+ghost use Rattle.std.specs.List.{prefix_len};
 ghost use Rattle.allowed_code.specs.Code.{is_code};
-ghost use Rattle.dial_code.specs.Digits.{most_digits, digits};
-ghost use Rattle.code_entry.specs.Range.{codes_from};
-ghost use Rattle.code_entry.specs.Entry.{is_blank, leading, all_codes, code_range, read_entry, own_code};
-ghost use Rattle.code_entry.specs.Scan.{digits_of, Held, pushed, run_of, is_end, sized_from, second_part, after_first};
+ghost use Rattle.code_entry.specs.Range.{range_of, codes_from, first_key, last_key};
+ghost use Rattle.code_entry.specs.Entry.{is_blank, dash, all_codes, code_range, read_entry, own_code};
+ghost use Rattle.code_entry.specs.Scan.{code_with, digits_of, pushed, run_of, is_end, country_digits, typed_code, entry_end, typed_range};
 
-use country_code::Country;
-use dial_code::{Code, FIRST_PLACE, Keyed, MOST_DIGITS};
+use dial_code::MOST_DIGITS;
+use refusal::{Read, Refusal};
+use std::marker::Model;
 
 // A range has at most so many codes.
 const MOST_CODES: u64 = 1_000;
 
-// So many codes of one length, from the code of a value on.
-#[derive(Clone, Copy)]
+// So many codes of one length, from the code of a value on: 1 to 15 digits, 1 to 1,000 codes, each a value of so many digits.
+#[derive(Clone, Copy, PartialEq, Eq)]
 pub struct CodeRange {
     pub digits: u64,
     pub first: u64,
     pub count: u64,
 }
 
-// What an entry names.
-#[derive(Clone, Copy)]
-pub enum Named {
-    Codes(CodeRange),
-    Refused(u64),
+impl Model for CodeRange {
+    ghost use Rattle.code_entry.specs.Codes.{Codes, Writable};
+
+    ghost Value = { Codes };
+
+    ghost view = { λ r. record { digits = r.digits; first = r.first; count = r.count } };
+
+    ghost invariant = { λ r. Writable (record { digits = r.digits; first = r.first; count = r.count }) };
+
+    ghost inverse = { λ c. record { digits = c.digits; first = c.first; count = c.count } };
 }
 
-// The entry at the front of a cell: what it names, with how many bytes it takes up to its comma or the cell's end; or 50, 51.
-#[derive(Clone, Copy)]
-pub enum EntryRead {
-    Read(CodeRange, usize),
-    Refused(u64),
+impl CodeRange {
+    // The key of the first code.
+    pub fn first_key(self) -> u64
+        ensures { result ≡ first_key self }
+    {
+        dial_code::code_key(self.digits, self.first).unwrap_or(0)
+    }
+
+    // The key of the last code.
+    pub fn last_key(self) -> u64
+        ensures { result ≡ last_key self }
+    {
+        dial_code::code_key(self.digits, self.first + (self.count - 1)).unwrap_or(0)
+    }
 }
 
-// The digits at a place of a cell, behind those counted before, and where they end.
+// Digits as they are typed: how many they are, and their value. After 15 they are too many, whatever follows: 16, of value 0.
 #[derive(Clone, Copy)]
-pub struct Run {
-    pub code: Code,
-    pub next: usize,
+struct Typed {
+    count: u64,
+    value: u64,
 }
 
-fn wide(x: u8) -> u64
-    ensures { (result ≡ x) × (result < 256) }
+impl Model for Typed {
+    ghost use Rattle.std.specs.Prelude.{◌<◌, ◌^◌};
+    ghost use Rattle.dial_code.specs.declared.Code.{Code};
+
+    ghost Value = { Code };
+
+    ghost view = { λ c. record { count = c.count; value = c.value } };
+
+    ghost invariant = { λ c. c.value < 10 ^ c.count };
+
+    ghost inverse = { λ c. record { count = c.count; value = c.value } };
+}
+
+impl Typed {
+    // No digits.
+    fn none() -> Self
+        ensures { result ≡ code_with 0 0 }
+    {
+        Typed { count: 0, value: 0 }
+    }
+
+    // The same with one digit more.
+    #[tactic(auto, unfolding(crate::specs::Scan::pushed))]
+    fn push(self, digit: u64) -> Self
+        requires { digit < 10 }
+        ensures { result ≡ pushed self digit }
+    {
+        if self.count < MOST_DIGITS {
+            Typed {
+                count: self.count + 1,
+                value: self.value * 10 + digit,
+            }
+        } else {
+            Typed {
+                count: MOST_DIGITS + 1,
+                value: 0,
+            }
+        }
+    }
+
+    // Whether they are an allowed code: from three digits on, where the first is not 0.
+    fn is_code(self) -> bool
+        ensures { result ≡ is_code (digits_of self) }
+    {
+        match self.count {
+            1 => self.value == 1 || self.value == 7,
+            2 => allowed_code::sent_code_key(self.count, self.value).is_ok(),
+            3..=MOST_DIGITS => dial_code::ten_to(self.count - 1) <= self.value,
+            _ => false,
+        }
+    }
+}
+
+// How many blanks stand at the front.
+fn blanks(s: &[u8]) -> usize
+    ensures value { result ≡ prefix_len is_blank s.now }
+    ensures within { result ≤ length s.now }
 {
-    x as u64
+    s.iter().take_while(|&&b| b == b' ').count()
 }
 
 // Where the blanks from a position on end.
+#[tactic(auto, using(std::proofs::lemmas::List::take_rest))]
 fn skip_blanks(cell: &[u8], start: usize) -> usize
     requires { start ≤ length cell.now }
-    ensures { result ≡ start + length (leading is_blank (drop start cell.now)) }
+    ensures { result ≡ start + prefix_len is_blank (drop start cell.now) }
 {
-    let mut at = start;
-    while at < cell.len() {
-        if cell[at] != b' ' {
-            return at;
-        }
-        at += 1;
-    }
-    at
+    start + blanks(&cell[start..])
 }
 
 // Whether an entry is over at a position: the cell ends, or a comma stands there.
+#[tactic(auto, using(crate::proofs::Scanning::end_none, crate::proofs::Scanning::end_byte))]
 fn is_end(cell: &[u8], at: usize) -> bool
     requires { at ≤ length cell.now }
     ensures { result ≡ is_end (drop at cell.now) }
 {
-    if at < cell.len() {
-        return cell[at] == b',';
-    }
-    true
+    cell.get(at).is_none_or(|&b| b == b',')
 }
 
-// A code with one digit more; after 15 it is too long, whatever follows.
-fn push_digit(code: Code, digit: u64) -> Code
-    requires { (Held code) × (digit < 10) }
-    ensures { result ≡ pushed code digit }
-{
-    if code.count < MOST_DIGITS {
-        return Code {
-            count: code.count + 1,
-            value: code.value * 10 + digit,
-        };
-    }
-    Code {
-        count: MOST_DIGITS + 1,
-        value: 0,
-    }
-}
-
-// The ASCII digits from a position on, behind those of a code.
-fn read_digits(own: Code, cell: &[u8], start: usize) -> Run
-    requires { (Held own) × (start ≤ length cell.now) }
+// The ASCII digits from a position on, behind others, and where they end.
+fn read_digits(own: Typed, cell: &[u8], start: usize) -> (Typed, usize)
+    requires { start ≤ length cell.now }
     ensures { result ≡ run_of own start (drop start cell.now) }
 {
     let mut code = own;
-    let mut at = start;
-    while at < cell.len() {
-        let b = wide(cell[at]);
-        if b < 48 {
-            return Run { code, next: at };
+    for (i, &b) in cell[start..].iter().enumerate() {
+        if !b.is_ascii_digit() {
+            return (code, start + i);
         }
-        if 57 < b {
-            return Run { code, next: at };
-        }
-        code = push_digit(code, b - 48);
-        at += 1;
+        code = code.push(u64::from(b - b'0'));
     }
-    Run { code, next: at }
+    (code, cell.len())
 }
 
-// Whether a code is allowed, by its key: its first digit is not 0 and it has a country.
-fn has_country(count: u64, value: u64) -> bool
-    requires { (count ≤ most_digits) × (value < 10 ^ count) }
-    ensures { result ≡ is_code (digits count value) }
+// The digits of a country cell, which holds nothing else.
+fn country_digits(country: &[u8]) -> Result<Typed, Refusal>
+    ensures { result ≡ country_digits country.now }
 {
-    match dial_code::code_key(count, value) {
-        Keyed::Refused(_) => false,
-        Keyed::Key(key) => {
-            if key < 2 * FIRST_PLACE {
-                return false;
-            }
-            match country_code::country_of_key(key) {
-                Country::None => false,
-                Country::Code(_) => true,
-            }
-        }
+    let (own, end) = read_digits(Typed::none(), country, 0);
+    // A byte that is no digit.
+    if end < country.len() {
+        return Err(Refusal::EntryNotAllowed);
     }
+    Ok(own)
 }
 
-// Whether a code of at most two digits is allowed.
-fn is_short_code(code: Code) -> bool
-    requires { (Held code) × (code.count < 3) }
-    ensures { result ≡ is_code (digits_of code) }
+// The code at a position, behind the digits of a country: it is typed, and allowed.
+fn read_code(own: Typed, cell: &[u8], at: usize) -> Read<Typed>
+    requires { at ≤ length cell.now }
+    ensures { result ≡ typed_code own cell.now at }
 {
-    if code.count == 1 {
-        if code.value == 1 {
-            return true;
-        }
-        return code.value == 7;
+    let (code, next) = read_digits(own, cell, at);
+    if next == at || !code.is_code() {
+        return Err(Refusal::EntryNotAllowed);
     }
-    has_country(code.count, code.value)
+    Ok((code, next))
 }
 
-// Whether a code is allowed: from three digits on, where its first digit is not 0.
-fn is_code(code: Code) -> bool
-    requires { Held code }
-    ensures { result ≡ is_code (digits_of code) }
+// Where the entry ends whose codes end at a position: blanks alone stand between.
+fn read_end(cell: &[u8], at: usize) -> Result<usize, Refusal>
+    requires { at ≤ length cell.now }
+    ensures { result ≡ entry_end cell.now at }
 {
-    if code.count < 3 {
-        return is_short_code(code);
+    let end = skip_blanks(cell, at);
+    if !is_end(cell, end) {
+        return Err(Refusal::EntryNotAllowed);
     }
-    if MOST_DIGITS < code.count {
-        return false;
-    }
-    dial_code::ten_to(code.count - 1) <= code.value
+    Ok(end)
 }
 
 // Whether so many codes from an allowed one on all are: from three digits on they are.
-fn are_codes(width: u64, first: u64, count: u64) -> bool
-    requires { (is_code (digits width first) ≡ true) × (first + count ≤ 10 ^ width) }
-    ensures { result ≡ all_codes (codes_from width first count) }
+fn are_codes(first: Typed, count: u64) -> bool
+    requires { (is_code (digits_of first) ≡ true) × (first.value + count ≤ 10 ^ first.count) }
+    ensures { result ≡ all_codes (codes_from first.count first.value count) }
 {
-    if 2 < width {
-        return true;
-    }
-    let mut value = first;
-    let mut left = count;
-    while 0 < left {
-        if !is_code(Code {
-            count: width,
+    2 < first.count
+        || (first.value..first.value + count).all(|value| allowed_code::sent_code_key(
+            first.count,
             value,
-        }) {
-            return false;
-        }
-        value += 1;
-        left -= 1;
-    }
-    true
+        ).is_ok())
 }
 
 // The range between two allowed codes.
-fn range_between(first: Code, last: Code) -> Named
-    requires { (Held first) × (Held last) × (is_code (digits_of first) ≡ true) }
+fn range_between(first: Typed, last: Typed) -> Result<CodeRange, Refusal>
+    requires { is_code (digits_of first) ≡ true }
     ensures { result ≡ code_range true (digits_of first) (digits_of last) }
 {
-    if first.count != last.count {
-        return Named::Refused(refusal::RANGE_NOT_ALLOWED);
-    }
-    if last.value < first.value {
-        return Named::Refused(refusal::RANGE_NOT_ALLOWED);
+    if first.count != last.count || last.value < first.value {
+        return Err(Refusal::RangeNotAllowed);
     }
     let count = last.value + 1 - first.value;
-    if !are_codes(first.count, first.value, count) {
-        return Named::Refused(refusal::ENTRY_NOT_ALLOWED);
+    if !are_codes(first, count) {
+        return Err(Refusal::EntryNotAllowed);
     }
     if MOST_CODES < count {
-        return Named::Refused(refusal::RANGE_NOT_ALLOWED);
+        return Err(Refusal::RangeNotAllowed);
     }
-    Named::Codes(CodeRange {
+    Ok(CodeRange {
         digits: first.count,
         first: first.value,
         count,
     })
 }
 
-// The entry of an allowed first code, at the bytes after its dash.
-fn read_second(own: Code, first: Code, cell: &[u8], at: usize) -> EntryRead
-    requires { (Held own) × (Held first) × (is_code (digits_of first) ≡ true) × (at ≤ length cell.now) }
-    ensures { result ≡ sized_from (second_part own first) at cell.now }
+// One allowed code.
+fn one_code(code: Typed) -> CodeRange
+    requires { is_code (digits_of code) ≡ true }
+    ensures { result ≡ range_of code.count code.value 1 }
 {
-    let second = read_digits(own, cell, at);
-    if second.next == at {
-        return EntryRead::Refused(refusal::ENTRY_NOT_ALLOWED);
-    }
-    if !is_code(second.code) {
-        return EntryRead::Refused(refusal::ENTRY_NOT_ALLOWED);
-    }
-    let end = skip_blanks(cell, second.next);
-    if !is_end(cell, end) {
-        return EntryRead::Refused(refusal::ENTRY_NOT_ALLOWED);
-    }
-    match range_between(first, second.code) {
-        Named::Refused(e) => EntryRead::Refused(e),
-        Named::Codes(range) => EntryRead::Read(range, end),
+    CodeRange {
+        digits: code.count,
+        first: code.value,
+        count: 1,
     }
 }
 
-// The entry of an allowed first code, at the bytes after it.
-fn read_after(own: Code, first: Code, cell: &[u8], at: usize) -> EntryRead
-    requires { (Held own) × (Held first) × (is_code (digits_of first) ≡ true) × (at ≤ length cell.now) }
-    ensures { result ≡ sized_from (after_first own first) at cell.now }
+// Whether a dash stands at a position.
+#[tactic(auto, using(crate::proofs::Scanning::none_there))]
+fn is_dash(cell: &[u8], at: usize) -> bool
+    ensures { result ≡ eqb (get_or cell.now at 0) dash }
 {
-    if at < cell.len() {
-        if cell[at] == b'-' {
-            return read_second(own, first, cell, at + 1);
-        }
-    }
-    let end = skip_blanks(cell, at);
-    if !is_end(cell, end) {
-        return EntryRead::Refused(refusal::ENTRY_NOT_ALLOWED);
-    }
-    EntryRead::Read(
-        CodeRange {
-            digits: first.count,
-            first: first.value,
-            count: 1,
-        },
-        end,
-    )
+    cell.get(at).is_some_and(|&b| b == b'-')
+}
+
+// The entry of an allowed first code, at the bytes after its dash.
+fn read_range(own: Typed, first: Typed, cell: &[u8], at: usize) -> Read<CodeRange>
+    requires { (is_code (digits_of first) ≡ true) × (at ≤ length cell.now) }
+    ensures { result ≡ typed_range own first cell.now at }
+{
+    let (last, next) = read_code(own, cell, at)?;
+    let end = read_end(cell, next)?;
+    Ok((range_between(first, last)?, end))
 }
 
 // The entry at the front of a cell, beside a country cell.
-pub fn read_entry(country: &[u8], cell: &[u8]) -> EntryRead
+pub fn read_entry(country: &[u8], cell: &[u8]) -> Read<CodeRange>
     ensures { result ≡ read_entry country.now cell.now }
 {
-    let own = read_digits(Code { count: 0, value: 0 }, country, 0);
-    // A byte that is no digit.
-    if own.next < country.len() {
-        return EntryRead::Refused(refusal::ENTRY_NOT_ALLOWED);
+    let own = country_digits(country)?;
+    let (first, at) = read_code(own, cell, blanks(cell))?;
+    if is_dash(cell, at) {
+        return read_range(own, first, cell, at + 1);
     }
-    let at = skip_blanks(cell, 0);
-    let first = read_digits(own.code, cell, at);
-    if first.next == at {
-        return EntryRead::Refused(refusal::ENTRY_NOT_ALLOWED);
-    }
-    if !is_code(first.code) {
-        return EntryRead::Refused(refusal::ENTRY_NOT_ALLOWED);
-    }
-    read_after(own.code, first.code, cell, first.next)
+    let end = read_end(cell, at)?;
+    Ok((one_code(first), end))
 }
 
 // The country's own code.
-pub fn own_code(country: &[u8]) -> Named
+pub fn own_code(country: &[u8]) -> Result<CodeRange, Refusal>
     ensures { result ≡ own_code country.now }
 {
-    let run = read_digits(Code { count: 0, value: 0 }, country, 0);
-    // A byte that is no digit.
-    if run.next < country.len() {
-        return Named::Refused(refusal::ENTRY_NOT_ALLOWED);
+    let code = country_digits(country)?;
+    if !code.is_code() {
+        return Err(Refusal::EntryNotAllowed);
     }
-    if !is_code(run.code) {
-        return Named::Refused(refusal::ENTRY_NOT_ALLOWED);
-    }
-    Named::Codes(CodeRange {
-        digits: run.code.count,
-        first: run.code.value,
-        count: 1,
-    })
+    Ok(one_code(code))
 }

@@ -1,9 +1,7 @@
 -- Country codes after E.164 (document 01, "Codes and countries").
-use Rattle.std.specs.Prelude.{◌≡◌, refl, Bool, true, false, cond, ◌&&◌, ◌||◌, List, [], ◌∷◌, map, ℕ, ◌+◌, ◌-◌, ◌*◌, length, take, eqb, leb}
+use Rattle.std.specs.Prelude.{◌≡◌, refl, Bool, true, false, cond, ◌&&◌, ◌||◌, List, [], ◌∷◌, map, ℕ, ◌+◌, ◌-◌, ◌*◌, length, take, eqb, leb, Option, Some, None}
 use Rattle.dial_code.specs.Digits.{value}
 use Rattle.dial_code.specs.Key.{key, keys_end, digits_of_key}
-use Rattle.country_code.specs.declared.Country.{Country}
-use Rattle.country_code.specs.declared.Country.TheVariants.{Code, None}
 
 -- the country codes of one digit
 abbrev pub one_digit : ℕ → Bool
@@ -50,12 +48,12 @@ country_digits (a ∷ []) = cond (one_digit a) 1 3
 country_digits (a ∷ b ∷ s) = cond (one_digit a) 1 (cond (two_digits (a * 10 + b)) 2 3)
 
 -- The country code of a digit string, as its value; none where the string is too short to have one.
-unfoldable pub country : List ℕ → Country
+unfoldable pub country : List ℕ → Option ℕ
 unfolding country_digits value
-country ds = cond (leb (country_digits ds) (length ds)) (Code (value (take (country_digits ds) ds))) None
+country ds = cond (leb (country_digits ds) (length ds)) (Some (value (take (country_digits ds) ds))) None
 
 -- The country of the code that a word is the key of.
-unfoldable pub country_of_key : ℕ → Country
+unfoldable pub country_of_key : ℕ → Option ℕ
 unfolding country digits_of_key
 country_of_key w = country (digits_of_key w)
 
@@ -73,7 +71,7 @@ countries :
     ∷ country (2 ∷ 3 ∷ [])
     ∷ country (0 ∷ [])
     ∷ []
-    ≡ Code 1 ∷ Code 7 ∷ Code 234 ∷ Code 44 ∷ Code 20 ∷ Code 210 ∷ Code 999 ∷ None ∷ None ∷ None ∷ None ∷ []
+    ≡ Some 1 ∷ Some 7 ∷ Some 234 ∷ Some 44 ∷ Some 20 ∷ Some 210 ∷ Some 999 ∷ None ∷ None ∷ None ∷ None ∷ []
 unfolding country
 countries = refl
 
@@ -102,6 +100,6 @@ of_keys :
     ∷ country_of_key (keys_end - 1)
     ∷ country_of_key keys_end
     ∷ []
-    ≡ Code 44 ∷ Code 234 ∷ None ∷ None ∷ Code 999 ∷ None ∷ []
+    ≡ Some 44 ∷ Some 234 ∷ None ∷ None ∷ Some 999 ∷ None ∷ []
 unfolding country_of_key key
 of_keys = refl

@@ -1,50 +1,46 @@
--- The marks of a notice, by the tests of the code. Assumes nothing.
-use mathlib.Core.Path.{◌≡◌, refl, sym, ◌∙◌}
-use mathlib.Core.List.{List, [], ◌∷◌}
-use Prim.Native.Nat.{ℕ, ◌≤◌}
-use borrow.Author.Tests.{eq-eqb, ne_eqb}
-use lib.ListN.{length, set, length-set}
+-- The marks of lines read one at a time. Assumes nothing.
+use mathlib.Core.Path.{◌≡◌, refl, sym}
+use mathlib.Core.List.{List}
+use Prim.Native.Nat.{ℕ, zero, suc, ◌-◌, ◌≤◌, ◌<◌}
+use lib.ListN.{length, length-set}
 use lib.Seq.{set_out}
 use Rattle.country_code.specs.CountryCode.{country_of_key}
-use Rattle.country_code.specs.declared.Country.{Country}
-use Rattle.country_code.specs.declared.Country.TheVariants.{Code, None}
-use Rattle.notice_header.specs.HeaderRule.{partial}
+use Rattle.notice_line.specs.LineRule.{line_at}
 use Rattle.notice_line.specs.declared.Line.{Line}
-use Rattle.country_marks.specs.Marks.{marked, marks_of, no_marks, marks_for}
+use Rattle.notice.specs.Lines.{lines_at}
+use Rattle.notice.proofs.LinesAgain.{lines_none_left, line_read}
+use Rattle.country_marks.specs.Marks.{marked, marks_of}
+use Rattle.refusal.specs.Steps.{ok_at}
+use Rattle.refusal.specs.declared.Refusal.{Refusal}
+use Rattle.std.proofs.Common.{Option, Some, None, Err}
 
--- The marks of a country, of one past the table, and of lines one at a time.
-pub marks_one : {x : Country} (marks : List ℕ) {n : ℕ} → x ≡ Code n → set marks n 1 ≡ marked x marks
-marks_one marks e = rw e
-
-pub marks_none : {x : Country} (marks : List ℕ) → x ≡ None → marks ≡ marked x marks
-marks_none marks e = rw e
-
-pub marks_past : {x : Country} (marks : List ℕ) {n : ℕ} → x ≡ Code n → length marks ≤ n → marks ≡ marked x marks
-marks_past marks {n} e h = sym (set_out marks n 1 h) ∙ marks_one marks e
-
-pub marks_end_law : (marks : List ℕ) → marks ≡ marks_of marks []
-unfolding marks_of
-marks_end_law marks = refl
-
-pub marks_turn : (marks : List ℕ) {next : List ℕ} (l : Line) {ls others : List Line} → ls ≡ l ∷ others
-    → next ≡ marked (country_of_key l.key) marks → marks_of next others ≡ marks_of marks ls
-unfolding marks_of
-marks_turn marks l e f = rw (e, f)
-
-pub length_marked : (x : Country) (marks : List ℕ) → length (marked x marks) ≡ length marks
-length_marked (Code n) marks = length-set marks n 1
+pub length_marked : (x : Option ℕ) (marks : List ℕ) → length (marked x marks) ≡ length marks
+length_marked (Some n) marks = length-set marks n 1
 length_marked None marks = refl
 
-pub marks_kept : (x : Country) (marks : List ℕ) {next : List ℕ} → next ≡ marked x marks → length marks ≤ 1000
-    → length next ≤ 1000
-marks_kept x marks e h = rw (e, length_marked x marks) h
+-- A country past the table would change nothing in it.
+pub marks_past : (marks : List ℕ) (n : ℕ) → length marks ≤ n → marks ≡ marked (Some n) marks
+marks_past marks n h = sym (set_out marks n 1 h)
 
--- The marks of a notice: those of its lines where it is partial, else none.
-pub marks_partial : {kind : ℕ} {marks : List ℕ} (ls : List Line) → kind ≡ partial → marks ≡ marks_of no_marks ls
-    → marks ≡ marks_for kind ls
-unfolding marks_for
-marks_partial {kind} ls k e = rw (eq-eqb kind partial k) e
+-- So many lines from a place on: one reads, none reads, none is left.
+module _ (marks : List ℕ) (n : ℕ) (s : List ℕ) (at : ℕ) where
+  pub marks_read :
+      {next : List ℕ} {l : Line} {end : ℕ}
+      → 0 < n
+      → line_at s at ≡ ok_at l end
+      → next ≡ marked (country_of_key l.key) marks
+      → marks_of next (lines_at (n - 1) s end) ≡ marks_of marks (lines_at n s at)
+  unfolding marks_of
+  marks_read h e f = rw (line_read n s at h refl e, f)
 
-pub marks_else : (kind : ℕ) (ls : List Line) → (kind ≡ partial → ⊥) → no_marks ≡ marks_for kind ls
-unfolding marks_for
-marks_else kind ls k = rw (ne_eqb kind partial k)
+  pub marks_stop : {e : Refusal} → line_at s at ≡ Err e → marks ≡ marks_of marks (lines_at n s at)
+  unfolding marks_of lines_at
+  marks_stop e = go n
+    where
+      go : (n : ℕ) → marks ≡ marks_of marks (lines_at n s at)
+      go zero = refl
+      go (suc n) = rw e
+
+  pub marks_over : n ≤ 0 → marks ≡ marks_of marks (lines_at n s at)
+  unfolding marks_of
+  marks_over h = rw (lines_none_left n s at h)

@@ -1,17 +1,16 @@
 -- The table of marks of a partial notice's countries, one for each value from 0 to 999.
-use Rattle.std.specs.Prelude.{◌≡◌, refl, cond, List, [], ◌∷◌, ◌++◌, ℕ, ◌+◌, eqb, length, get_or, set, replicate}
+use Rattle.std.specs.Prelude.{◌≡◌, refl, List, [], ◌∷◌, ◌++◌, ℕ, ◌+◌, length, get_or, set, replicate, Option, Some, None}
 use Rattle.dial_code.specs.Key.{key}
 use Rattle.country_code.specs.CountryCode.{country_of_key}
-use Rattle.country_code.specs.declared.Country.{Country}
-use Rattle.country_code.specs.declared.Country.TheVariants.{Code, None}
-use Rattle.notice_header.specs.HeaderRule.{full, partial}
+use Rattle.notice_header.specs.declared.Kind.{Kind}
+use Rattle.notice_header.specs.declared.Kind.TheVariants.{Full, Partial, Update, Replacement}
 use Rattle.rate.specs.declared.Offer.TheVariants.{Closed, Blocked}
 use Rattle.notice_line.specs.LineRule.{line_of}
 use Rattle.notice_line.specs.declared.Line.{Line}
 
 -- The table of marks: a 1 at the value of each country of the lines.
-abbrev pub marked : Country → List ℕ → List ℕ
-marked (Code c) marks = set marks c 1
+abbrev pub marked : Option ℕ → List ℕ → List ℕ
+marked (Some c) marks = set marks c 1
 marked None marks = marks
 
 unfoldable pub marks_of : List ℕ → List Line → List ℕ
@@ -22,8 +21,11 @@ abbrev pub no_marks : List ℕ
 no_marks = replicate 1000 0
 
 -- A partial notice has its countries marked, another none.
-unfoldable pub marks_for : ℕ → List Line → List ℕ
-marks_for kind ls = cond (eqb kind partial) (marks_of no_marks ls) no_marks
+unfoldable pub marks_for : Kind → List Line → List ℕ
+marks_for Partial ls = marks_of no_marks ls
+marks_for Full ls = no_marks
+marks_for Update ls = no_marks
+marks_for (Replacement country) ls = no_marks
 
 -- lines of 447, 7, a code with no country, and 999
 lines : List Line
@@ -35,7 +37,7 @@ seen marks = get_or marks 7 0 ∷ get_or marks 44 0 ∷ get_or marks 447 0 ∷ g
 
 -- a partial notice marks its countries; another kind marks none
 marks :
-    seen (marks_for partial lines) ∷ seen (marks_for partial []) ∷ seen (marks_for full lines) ∷ []
+    seen (marks_for Partial lines) ∷ seen (marks_for Partial []) ∷ seen (marks_for Full lines) ∷ []
     ≡ (1 ∷ 1 ∷ 0 ∷ 1 ∷ []) ∷ (0 ∷ 0 ∷ 0 ∷ 0 ∷ []) ∷ (0 ∷ 0 ∷ 0 ∷ 0 ∷ []) ∷ []
 unfolding marks_for marks_of country_of_key key lines seen
 marks = refl
@@ -45,6 +47,6 @@ total [] = 0
 total (n ∷ ns) = n + total ns
 
 -- as many marks as there are values, of which a partial notice sets one for each of its three countries, however often it names them
-sums : length (marks_for partial lines) ∷ total (marks_for partial (lines ++ lines)) ∷ [] ≡ 1000 ∷ 3 ∷ []
+sums : length (marks_for Partial lines) ∷ total (marks_for Partial (lines ++ lines)) ∷ [] ≡ 1000 ∷ 3 ∷ []
 unfolding marks_for marks_of country_of_key key lines total
 sums = refl

@@ -10,9 +10,8 @@ use Rattle.dial_code.specs.Digits.{every, is_ascii}
 use Rattle.code_entry.specs.Range.{range_codes}
 use Rattle.code_entry.specs.Entry.{entry_of, rest_of, all_codes, entry_codes}
 use Rattle.code_entry.specs.declared.CodeRange.{CodeRange}
-use Rattle.code_entry.specs.declared.Named.TheVariants.{Codes}
 use Rattle.code_entry.proofs.EntryLaws.{rest_drop, codes_allowed}
-use Rattle.code_cell.specs.Cell.{Keys, is_own, names_of, cell_keys, entry_keys, keys_of}
+use Rattle.code_cell.specs.Cell.{is_own, names_of, cell_keys, entry_keys, keys_of}
 use Rattle.code_cell.specs.Rising.{Rising}
 use Rattle.code_cell.specs.Rising.{holds}
 use Rattle.cell_laws.specs.Names.{named}
@@ -21,6 +20,7 @@ use Rattle.cell_laws.specs.Prefixed.{before_codes}
 use Rattle.cell_laws.proofs.CellKeys as keys
 use Rattle.cell_laws.proofs.EntryByEntry as entries
 use Rattle.cell_laws.proofs.CountryDigits as country
+use Rattle.std.proofs.Common.{Ok}
 
 pub rising : (c s : List ℕ) (room : ℕ) → Rising (keys_of (cell_keys c s room))
 rising = keys.cell_rises
@@ -30,7 +30,7 @@ entry_rising = keys.entry_rises
 
 pub exactly_named :
     (c s : List ℕ) (room : ℕ) (ks : List ℕ)
-    → cell_keys c s room ≡ Keys ks
+    → cell_keys c s room ≡ Ok ks
     → (k : ℕ)
     → holds k ks ≡ named (names_of c s) k
 exactly_named = keys.cell_holds
@@ -49,5 +49,5 @@ pub country_before_codes :
     → cell_keys c s room ≡ cell_keys [] (before_codes c s) room
 country_before_codes = country.before_codes_law
 
-pub every_code_allowed : (c e : List ℕ) (r : CodeRange) → entry_codes c e ≡ Codes r → all_codes (range_codes r) ≡ true
+pub every_code_allowed : (c e : List ℕ) (r : CodeRange) → entry_codes c e ≡ Ok r → all_codes (range_codes r) ≡ true
 every_code_allowed = codes_allowed

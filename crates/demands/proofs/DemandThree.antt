@@ -6,34 +6,34 @@ use mathlib.Core.List.{List, [], ◌∷◌, map}
 use mathlib.Core.Logic.{◌≢◌, ◌↔◌}
 use Prim.Native.Nat.{ℕ, ◌≤◌, ◌<◌}
 use lib.ListN.{length}
-use Rattle.refusal.specs.Refusal.{book_full}
 use Rattle.dial_code.specs.Digits.{digit_of, is_dialled}
 use Rattle.dial_code.specs.Key.{key}
 use Rattle.country_code.specs.CountryCode.{country}
-use Rattle.country_code.specs.declared.Country.TheVariants.{None}
 use Rattle.calendar.specs.Time.{is_day}
 use Rattle.calendar.specs.declared.Day.{Day}
-use Rattle.notice.specs.NoticeRule.{Notice, notice, read_notice}
-use Rattle.notice_header.specs.HeaderRule.{full}
+use Rattle.notice.specs.NoticeRule.{Notice, read_notice}
+use Rattle.notice_header.specs.declared.Kind.TheVariants.{Full}
 use Rattle.notice_line.specs.declared.Line.{Line}
 use Rattle.book_words.specs.Layout.{header_words, period_of, received_of, held, entries_of}
 use Rattle.book.specs.Soundness.{sound}
-use Rattle.book.specs.Answers.{fresh_refusal, fresh_book}
+use Rattle.book.specs.Answers.{fresh_answer, fresh_book}
 use Rattle.lookup.specs.Lookup.{lookup}
-use Rattle.lookup.specs.declared.Lookup.TheVariants.{Found}
 use Rattle.history.specs.Effect.{named_by}
 use Rattle.history.specs.ChangeDays.{change_days}
 use Rattle.history.specs.Machine.{known, last_received, words, answer_of}
-use Rattle.history.specs.Applying.{in_book, apply_refusal, applied, apply_answer}
+use Rattle.history.specs.Applying.{in_book, apply_notice, applied, apply_answer}
 use Rattle.history.specs.Claim.{Apply, machine_answers, accepted_by, current, book_answers, book_left, Alike}
 use Rattle.history.proofs.Theorem as theorem
 use Rattle.history.proofs.Corollaries as corollaries
+use Rattle.refusal.specs.declared.Refusal.TheVariants.{BookFull}
+use Rattle.std.proofs.Common.{Ok, Err, None}
+use Rattle.refusal.specs.declared.Refusal.{Refusal}
 
--- The claim: each apply gives the plain machine's refusal number; the entries left are its change days, in order; and every
+-- The claim: each apply gives the plain machine's answer, the same notice accepted or the same refusal; the entries left are its change days, in order; and every
 -- lookup in the book left gives its offer and matched key, worked from the accepted notices alone.
 pub demand_three :
     (len period : ℕ)
-    → fresh_refusal len period ≡ 0
+    → fresh_answer len period ≡ Ok tt
     → (all : List Apply)
     → (book_answers (fresh_book len period) all ≡ machine_answers period [] all)
     × (entries_of (book_left (fresh_book len period) all) ≡ change_days (words (known period (accepted_by period [] all))))
@@ -41,25 +41,25 @@ pub demand_three :
     → is_dialled number ≡ true
     → is_day day ≡ true
     → lookup (book_left (fresh_book len period) all) number day
-    ≡ Found (answer_of period (accepted_by period [] all) (map digit_of number) day.0))
+    ≡ Ok (answer_of period (accepted_by period [] all) (map digit_of number) day.0))
 demand_three len period e all =
     let a = theorem.claim len period e all in
     (a.refusals, a.entries, a.lookups)
 
 -- The claim by its own name.
-pub claim : (len period : ℕ) → fresh_refusal len period ≡ 0 → (all : List Apply) → Alike (fresh_book len period) period [] all
+pub claim : (len period : ℕ) → fresh_answer len period ≡ Ok tt → (all : List Apply) → Alike (fresh_book len period) period [] all
 claim = theorem.claim
 
 -- A refused notice leaves every word of the new book, and changes no offer.
-pub refused_keeps : (ws bytes new : List ℕ) → apply_refusal ws bytes (length new) ≢ 0 → applied ws bytes new ≡ new
+pub refused_keeps : (ws bytes new : List ℕ) (r : Refusal) → apply_notice ws bytes (length new) ≡ Err r → applied ws bytes new ≡ new
 refused_keeps = corollaries.refused_keeps
 
-pub refused_stays : (ws : List ℕ) (a : Apply) → apply_refusal ws a.bytes (length a.new) ≢ 0 → current ws a ≡ ws
+pub refused_stays : (ws : List ℕ) (a : Apply) (r : Refusal) → apply_notice ws a.bytes (length a.new) ≡ Err r → current ws a ≡ ws
 refused_stays = corollaries.refused_stays
 
 pub refused_offers :
-    (ws : List ℕ) (a : Apply)
-    → apply_refusal ws a.bytes (length a.new) ≢ 0
+    (ws : List ℕ) (a : Apply) (r : Refusal)
+    → apply_notice ws a.bytes (length a.new) ≡ Err r
     → (number : List ℕ) (day : Day)
     → lookup (current ws a) number day ≡ lookup ws number day
 refused_offers = corollaries.refused_offers
@@ -67,8 +67,8 @@ refused_offers = corollaries.refused_offers
 -- A partial notice, an update or a replacement changes no offer of a number outside the countries that it names.
 pub outside_keeps :
     (ws : List ℕ) (a : Apply) (n : Notice)
-    → read_notice a.bytes ≡ notice n
-    → n.kind ≢ full
+    → read_notice a.bytes ≡ Ok n
+    → n.kind ≢ Full
     → (number : List ℕ)
     → named_by n.lines (key (map digit_of number)) ≡ false
     → (day : Day)
@@ -87,12 +87,12 @@ too_short = corollaries.too_short
 -- change days would be more than the new book's entries held.
 pub full_exactly :
     (start period : ℕ)
-    → fresh_refusal start period ≡ 0
+    → fresh_answer start period ≡ Ok tt
     → (all : List Apply) (bytes : List ℕ) (len : ℕ)
-    → (apply_refusal (book_left (fresh_book start period) all) bytes len ≡ book_full)
+    → (apply_notice (book_left (fresh_book start period) all) bytes len ≡ Err BookFull)
     ↔ ((n : Notice)
     × (header_words ≤ len)
-    × (read_notice bytes ≡ notice n)
+    × (read_notice bytes ≡ Ok n)
     × (last_received (accepted_by period [] all) ≤ n.received)
     × (held len < length (change_days (words (known period (n ∷ accepted_by period [] all))))))
 full_exactly = corollaries.fresh_full_exactly
@@ -100,12 +100,11 @@ full_exactly = corollaries.fresh_full_exactly
 -- It is accepted exactly where nothing earlier refuses it and they are no more.
 pub taken_exactly :
     (start period : ℕ)
-    → fresh_refusal start period ≡ 0
-    → (all : List Apply) (bytes : List ℕ) (len : ℕ)
-    → (apply_refusal (book_left (fresh_book start period) all) bytes len ≡ 0)
-    ↔ ((n : Notice)
-    × (header_words ≤ len)
-    × (read_notice bytes ≡ notice n)
+    → fresh_answer start period ≡ Ok tt
+    → (all : List Apply) (bytes : List ℕ) (len : ℕ) (n : Notice)
+    → (apply_notice (book_left (fresh_book start period) all) bytes len ≡ Ok n)
+    ↔ ((header_words ≤ len)
+    × (read_notice bytes ≡ Ok n)
     × (last_received (accepted_by period [] all) ≤ n.received)
     × (length (change_days (words (known period (n ∷ accepted_by period [] all)))) ≤ held len))
 taken_exactly = corollaries.fresh_taken_exactly
@@ -113,10 +112,9 @@ taken_exactly = corollaries.fresh_taken_exactly
 -- After an accepted apply the entries are the machine's change days with the notice appended.
 pub accepted_entries :
     (start period : ℕ)
-    → fresh_refusal start period ≡ 0
+    → fresh_answer start period ≡ Ok tt
     → (all : List Apply) (a : Apply) (n : Notice)
-    → read_notice a.bytes ≡ notice n
-    → apply_refusal (book_left (fresh_book start period) all) a.bytes (length a.new) ≡ 0
+    → apply_notice (book_left (fresh_book start period) all) a.bytes (length a.new) ≡ Ok n
     → entries_of (current (book_left (fresh_book start period) all) a)
     ≡ change_days (words (known period (n ∷ accepted_by period [] all)))
 accepted_entries = corollaries.fresh_accepted_entries
@@ -124,17 +122,15 @@ accepted_entries = corollaries.fresh_accepted_entries
 -- It answers their number, and the machine's last received day and latest effective day.
 pub accepted_answer_law :
     (start period : ℕ)
-    → fresh_refusal start period ≡ 0
+    → fresh_answer start period ≡ Ok tt
     → (all : List Apply) (a : Apply) (n : Notice)
-    → read_notice a.bytes ≡ notice n
-    → apply_refusal (book_left (fresh_book start period) all) a.bytes (length a.new) ≡ 0
+    → apply_notice (book_left (fresh_book start period) all) a.bytes (length a.new) ≡ Ok n
     → apply_answer (book_left (fresh_book start period) all) a.bytes (length a.new)
-    ≡ record {
-      refusal = 0;
+    ≡ Ok (record {
       entries = length (change_days (words (known period (n ∷ accepted_by period [] all))));
       received = n.received;
       latest = (known period (n ∷ accepted_by period [] all)).latest;
-    }
+    })
 accepted_answer_law = corollaries.fresh_accepted_answer
 
 -- The stronger statement behind the claim: any sound book that stands where a history stands goes on as the machine does.

@@ -8,14 +8,12 @@ use lib.Dec.{leb}
 use lib.ListN.{length, take, drop}
 use Rattle.dial_code.specs.Key.{code_key, code_of}
 use Rattle.allowed_code.specs.Code.{is_code_key}
-use Rattle.dial_code.specs.declared.Keyed.TheVariants.{Key}
 use Rattle.allowed_code.proofs.SentBack as codes
 use Rattle.notice_line.specs.LineRule.{read_line}
-use Rattle.notice.specs.NoticeRule.{Notice, notice, unread, read_notice}
+use Rattle.notice.specs.NoticeRule.{Notice, read_notice}
 use Rattle.line_writing.specs.LineLayout.{encode_line}
 use Rattle.notice_writing.specs.Layout.{encode_notice}
 use Rattle.notice_line.specs.declared.Line.{Line}
-use Rattle.notice_line.specs.declared.LineRead.TheVariants as line
 use Rattle.notice_line.proofs.LineLaws.{ValidLine}
 use Rattle.line_writing.proofs.LineBack as back
 use Rattle.notice.proofs.NoticeLaws as laws
@@ -27,10 +25,9 @@ use Rattle.rate.specs.declared.Offer.TheVariants.{Closed}
 use Rattle.book_words.specs.Layout.{header_words, held, entries_of}
 use Rattle.book.specs.Soundness.{sound}
 use Rattle.longest_match.specs.Match.{answer}
-use Rattle.book.specs.Answers.{fresh_refusal, fresh_book, book_refusal}
+use Rattle.book.specs.Answers.{fresh_answer, fresh_book, check_book}
 use Rattle.lookup.specs.Lookup.{lookup}
-use Rattle.lookup.specs.declared.Lookup.TheVariants.{Found}
-use Rattle.history.specs.Applying.{apply_refusal, applied}
+use Rattle.history.specs.Applying.{apply_notice, applied}
 use Rattle.rating.specs.Call.{rate_call}
 use Rattle.batch.specs.Batch.{row_words, dialled_as, row_of, call_words, rows_of}
 use Rattle.batch.specs.declared.CallRecord.{CallRecord}
@@ -39,45 +36,49 @@ use Rattle.listing.specs.List.{standing_lines, standing_notice, list_of, list_an
 use Rattle.listing.proofs.Answering as answering
 use Rattle.listing.proofs.ReadsBack as lists
 use Rattle.listing.proofs.Relisted as relisted
+use Rattle.refusal.specs.Steps.{ok_at}
+use Rattle.std.proofs.Common.{Ok, Err, Option, Some, None}
+use Rattle.refusal.specs.Refusal.{number_of}
+use Rattle.refusal.specs.declared.Refusal.{Refusal}
 
 -- A line's bytes read as the line, whatever follows them.
 pub line_back :
-    (named before last : ℕ) (l : Line) (post : List ℕ)
-    → ValidLine named before last l
-    → read_line named before last (encode_line l ++ post) ≡ line.Read l (length (encode_line l))
+    (named : Option ℕ) (before : Option Line) (l : Line) (post : List ℕ)
+    → ValidLine named before l
+    → read_line named before (encode_line l ++ post) ≡ ok_at l (length (encode_line l))
 line_back = back.line_back
 
 -- A notice of any lines that the layout allows reads back as the same notice.
-pub notice_back : (n : Notice) → laws.Valid n → read_notice (encode_notice n) ≡ notice n
+pub notice_back : (n : Notice) → laws.Valid n → read_notice (encode_notice n) ≡ Ok n
 notice_back = backs.notice_back
 
 -- Every notice that is read is such a notice, so written anew it reads the same.
-pub read_again : (s : List ℕ) (n : Notice) → read_notice s ≡ notice n → read_notice (encode_notice n) ≡ notice n
+pub read_again : (s : List ℕ) (n : Notice) → read_notice s ≡ Ok n → read_notice (encode_notice n) ≡ Ok n
 read_again = backs.read_again
 
 -- A notice is refused with one of 1 to 9.
-pub notice_refusals : (s : List ℕ) (e : ℕ) → read_notice s ≡ unread e → (1 ≤ e) × (e ≤ 9)
+pub notice_refusals : (s : List ℕ) (e : Refusal) → read_notice s ≡ Err e → (1 ≤ number_of e) × (number_of e ≤ 9)
 notice_refusals = laws.notice_refusals
 
 -- The count and value of an allowed code's key are sent back to the key.
-pub key_sent : (w : ℕ) → is_code_key w ≡ true → code_key (code_of w).count (code_of w).value ≡ Key w
+pub key_sent : (w : ℕ) → is_code_key w ≡ true → code_key (code_of w).count (code_of w).value ≡ Ok w
 key_sent = codes.key_sent
 
 -- A standing list reads back as a full notice of its day with exactly its lines.
 pub list_reads_back :
     (ws : List ℕ) (day : ℕ)
-    → book_refusal ws ≡ 0
+    → check_book ws ≡ Ok tt
     → day ≤ last_received_day
     → (standing_lines (entries_of ws) day ≡ [] → ⊥)
-    → read_notice (encode_notice (standing_notice (entries_of ws) day)) ≡ notice (standing_notice (entries_of ws) day)
+    → read_notice (encode_notice (standing_notice (entries_of ws) day)) ≡ Ok (standing_notice (entries_of ws) day)
 list_reads_back = lists.list_reads_back
 
 -- So do the bytes that writing it leaves, up to the length that it gives.
 pub written_list_reads_back :
-    (ws : List ℕ) (day : Day) (out : List ℕ)
-    → (list_answer ws day (length out)).refusal ≡ 0
-    → read_notice (take (list_answer ws day (length out)).length (list_bytes ws day out))
-    ≡ notice (standing_notice (entries_of ws) day.0)
+    (ws : List ℕ) (day : Day) (out : List ℕ) (n : ℕ)
+    → list_answer ws day (length out) ≡ Ok n
+    → read_notice (take n (list_bytes ws day out))
+    ≡ Ok (standing_notice (entries_of ws) day.0)
 written_list_reads_back = lists.written_reads_back
 
 -- A standing list takes at most 21 bytes a line, and 7 before them.
@@ -111,20 +112,20 @@ row_in = batches.row_in
 -- after day d is not in the list.
 pub list_applied :
     (ws : List ℕ) (day : Day)
-    → book_refusal ws ≡ 0
+    → check_book ws ≡ Ok tt
     → day.0 ≤ last_received_day
     → (standing_lines (entries_of ws) day.0 ≡ [] → ⊥)
     → (start : ℕ)
-    → fresh_refusal start 0 ≡ 0
+    → fresh_answer start 0 ≡ Ok tt
     → (new : List ℕ)
     → header_words ≤ length new
     → length (standing_lines (entries_of ws) day.0) ≤ held (length new)
-    → (apply_refusal (fresh_book start 0) (encode_notice (standing_notice (entries_of ws) day.0)) (length new) ≡ 0)
+    → (apply_notice (fresh_book start 0) (encode_notice (standing_notice (entries_of ws) day.0)) (length new) ≡ Ok (standing_notice (entries_of ws) day.0))
     × ((number : List ℕ) (d : Day)
     → is_dialled number ≡ true
     → is_day d ≡ true
     → lookup (applied (fresh_book start 0) (encode_notice (standing_notice (entries_of ws) day.0)) new) number d
-    ≡ cond (leb day.0 d.0) (lookup ws number day) (Found (answer 0 Closed)))
+    ≡ cond (leb day.0 d.0) (lookup ws number day) (Ok (answer 0 Closed)))
 list_applied ws day b r some start f new long fits = (
   relisted.relisted_accepted ws day b r some start f new long fits,
   relisted.relisted_lookups ws day b r some start f new long fits,

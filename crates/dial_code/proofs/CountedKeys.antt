@@ -1,21 +1,21 @@
 -- The key of a code sent as a count of digits and a value, one digit at a time from the last. Assumes nothing.
 use mathlib.Core.Path.{◌≡◌, refl, ap, sym, ◌∙◌}
-use mathlib.Core.Bool.{Bool, true, false, cond}
 use mathlib.Core.List.{List, [], ◌∷◌, ◌++◌}
 use Prim.Native.Nat.{ℕ, zero, suc, ◌+◌, ◌-◌, ◌*◌, ◌/◌, ◌%◌, ◌^◌, ◌≤◌, ◌<◌, min}
-use native.Mathlib.Nat.{pow-suc, pow-succ', pow-le-pow_right, one-le-pow}
-use native.Mathlib.Nat.{div-one, div-eq_of_lt, div-div-eq-div-mul, div-lt_iff_lt-mul}
+use native.Mathlib.Nat.{pow-suc, pow-le-pow_right}
+use native.Mathlib.Numerals.{add-one}
+use native.Mathlib.Nat.{div-one, div-div-eq-div-mul, div-lt_iff_lt-mul, le-div_iff_mul-le}
 use native.Mathlib.Omega.{arith}
 use borrow.Author.Tests.{lt-leb, le-leb, lt-ltb, le-ltb}
 use lib.Dec.{lit<}
 use lib.ListN.{length}
-use Rattle.refusal.specs.Refusal.{out_of_range}
-use Rattle.dial_code.specs.Digits.{digits, is_written}
+use Rattle.dial_code.specs.Digits.{digits}
 use Rattle.dial_code.specs.Key.{key_from, key, code_key, key_or_zero}
-use Rattle.dial_code.specs.declared.Keyed.TheVariants.{Key, Refused}
-use Rattle.dial_code.proofs.DigitLaws.{length_digits, digits_last, digits_are}
-use Rattle.dial_code.proofs.KeyLaws.{below_end}
-use Rattle.dial_code.proofs.Tests.{below, equal, above, order}
+use Rattle.dial_code.proofs.DigitLaws.{ten, length_digits, digits_last, digits_are}
+use Rattle.dial_code.proofs.KeyLaws.{key_below, below_end}
+use Rattle.std.specs.Result.{result_unwrap_or}
+use Rattle.refusal.specs.declared.Refusal.TheVariants.{OutOfRange}
+use Rattle.std.proofs.Common.{Ok, Err}
 
 key_last : (i d : ℕ) (ds : List ℕ) → key_from i (ds ++ (d ∷ [])) ≡ key_from i ds + (d + 1) * 11 ^ (15 - (i + length ds))
 unfolding key_from
@@ -47,27 +47,7 @@ next_weight k w h l e =
 pub weight_most : (k w : ℕ) → 0 < k → w ≡ 11 ^ (15 - k) → w ≤ 11 ^ 14
 weight_most k w h e = rw e (pow-le-pow_right (lit< tt) {i = 15 - k} {j = 14} (omega arith))
 
--- The weight of a place that is known.
-pub weighs : (k : ℕ) {place : ℕ} → place ≡ k → 11 ^ (15 - k) ≡ 11 ^ (15 - place)
-weighs k e = rw e
-
--- From the last place on.
-pub last_weight : {place : ℕ} → 15 ≤ place → 1 ≡ 11 ^ (15 - place)
-last_weight {place} h =
-    let f : 15 - place ≡ 0 = omega arith in
-    rw f
-
--- The power of ten of a number that is known, and the last.
-pub tens : (k : ℕ) → k ≤ 15 → {n : ℕ} → n ≡ k → 10 ^ k ≡ 10 ^ min n 15
-tens k h {n} e =
-    let f : min n 15 ≡ k = omega arith in
-    rw f
-
-pub last_ten : {n : ℕ} → 15 ≤ n → 10 ^ 15 ≡ 10 ^ min n 15
-last_ten {n} h =
-    let f : min n 15 ≡ 15 = omega arith in
-    rw f
-
+-- The power of ten of a count that has one.
 pub few_tens : (n t : ℕ) → n ≤ 15 → t ≡ 10 ^ min n 15 → t ≡ 10 ^ n
 few_tens n t h e =
     let f : min n 15 ≡ n = omega arith in
@@ -80,69 +60,84 @@ sent_below count v h = below_end (digits count v) (digits_are count v) (rw (leng
 
 -- The rule by the tests of the code.
 module _ (count v : ℕ) where
-  pub no_count : count ≡ 0 → code_key count v ≡ Refused out_of_range
+  pub no_count : count ≡ 0 → code_key count v ≡ Err OutOfRange
   unfolding code_key
   no_count e = rw (lt-leb 1 count (omega arith))
 
-  pub many : 15 < count → code_key count v ≡ Refused out_of_range
+  pub many : 15 < count → code_key count v ≡ Err OutOfRange
   unfolding code_key
   many h = rw (le-leb 1 count (omega arith), lt-leb count 15 h)
 
-  pub large : 0 < count → count ≤ 15 → 10 ^ count ≤ v → code_key count v ≡ Refused out_of_range
+  pub large : 0 < count → count ≤ 15 → 10 ^ count ≤ v → code_key count v ≡ Err OutOfRange
   unfolding code_key
   large p h l = rw (le-leb 1 count p, le-leb count 15 h, le-ltb v (10 ^ count) l)
 
-  pub sent : 0 < count → count ≤ 15 → v < 10 ^ count → code_key count v ≡ Key (key_from 1 (digits count v))
+  pub sent : 0 < count → count ≤ 15 → v < 10 ^ count → code_key count v ≡ Ok (key_from 1 (digits count v))
   unfolding code_key
   sent p h l = rw (le-leb 1 count p, le-leb count 15 h, lt-ltb v (10 ^ count) l)
 
   -- The key, or 0, by whether there is one.
   pub key_so : 0 < count → count ≤ 15 → v < 10 ^ count → key_or_zero count v ≡ key (digits count v)
+  unfolding key_or_zero key
+  key_so p h l = rw (sent p h l)
+
+  pub or_zero : result_unwrap_or (code_key count v) 0 ≡ key_or_zero count v
   unfolding key_or_zero
-  key_so p h l = rw (le-leb 1 count p, le-leb count 15 h, lt-ltb v (10 ^ count) l)
+  or_zero = refl
 
-  pub key_told : (k : ℕ) → code_key count v ≡ Key k → key_or_zero count v ≡ k
-  unfolding code_key key_or_zero
-  key_told k q = go (is_written count v) q
-    where
-      go : (t : Bool) → cond t (Key (key (digits count v))) (Refused out_of_range) ≡ Key k → cond t (key (digits count v)) 0 ≡ k
-      go true r = cc
-      go false r = let z : ◌≡◌ {A = ℕ} 0 1 = cc in absurd (omega arith)
+-- What code_key has weighed after n turns of its loop: the last n digits.
+pub record Weighed (count v n key weight rest : ℕ) : Type 0 where
+  pub whole : key ≡ key_from (count + 1 - n) (digits n v)
+  pub weighs : weight ≡ 11 ^ (15 - (count - n))
+  pub left : rest ≡ v / 10 ^ n
 
-  pub zero_told : (e : ℕ) → code_key count v ≡ Refused e → key_or_zero count v ≡ 0
-  unfolding code_key key_or_zero
-  zero_told e q = go (is_written count v) q
-    where
-      go : (t : Bool) → cond t (Key (key (digits count v))) (Refused out_of_range) ≡ Refused e → ◌≡◌ {A = ℕ} (cond t (key (digits count v)) 0) 0
-      go true r = let z : ◌≡◌ {A = ℕ} 0 1 = cc in absurd (omega arith)
-      go false r = refl
-
--- The digits left after those weighed: a turn takes the last away, and a value that so many digits can write leaves none.
-pub less_left : (k v : ℕ) {rest : ℕ} → 0 < k → v / 10 ^ k ≡ rest → v / 10 / 10 ^ (k - 1) ≡ rest
-less_left zero v h e = absurd (omega arith)
-less_left (suc k) v h e =
-    let f : suc k - 1 ≡ k = omega arith in
-    rw f (div-div-eq-div-mul v 10 (10 ^ k) ∙ ap (λ (p : ℕ). v / p) (sym (pow-succ' 10 k)) ∙ e)
-
-left_over : (k v : ℕ) {rest : ℕ} → k ≡ 0 → v / 10 ^ k ≡ rest → v ≡ rest
-left_over zero v e q = sym (div-one v) ∙ q
-left_over (suc k) v e q = absurd (omega arith)
-
-pub over : (k v count value : ℕ) → k ≡ 0 → v / 10 ^ k ≡ value / 10 ^ count → 0 < v → 10 ^ count ≤ value
-over k v count value e q h =
-    elim (order value (10 ^ count)) [
-      | below l ↦ absurd (omega (arith, left_over k v e q, div-eq_of_lt l))
-      | equal l ↦ omega arith
-      | above l ↦ omega arith
-    ]
-
-pub none_over : (k v count value : ℕ) → k ≡ 0 → v / 10 ^ k ≡ value / 10 ^ count → v ≤ 0 → value < 10 ^ count
-none_over k v count value e q h =
-    let z : value / 10 ^ count < 1 = omega (arith, left_over k v e q) in
-    omega (arith, (div-lt_iff_lt-mul (one-le-pow count 10 (lit< tt))).0 z)
-
--- No digit is left to weigh.
-pub all_weighed : (k v weighed : ℕ) {total : ℕ} → k ≡ 0 → weighed + key_from 1 (digits k v) ≡ total → weighed ≡ total
+pub begins : (count v weight : ℕ) → weight ≡ 11 ^ (15 - count) → Weighed count v 0 0 weight v
 unfolding digits key_from
-all_weighed zero v weighed e h = omega arith
-all_weighed (suc k) v weighed e h = absurd (omega arith)
+begins count v weight w =
+    let f : count - 0 ≡ count = omega arith in
+    record { whole = refl; weighs = rw f w; left = sym (div-one v) }
+
+-- One digit more, which has room.
+module _ {count v n key weight rest : ℕ} (w : Weighed count v n key weight rest) (l : n < count) (h : count ≤ 15) where
+  turn_key : key + (rest % 10 + 1) * weight ≡ key_from (count - n) (digits (n + 1) v)
+  unfolding digits key_from
+  turn_key =
+      let g : count - n + 1 ≡ count + 1 - n = omega arith in
+      rw (add-one n, g, ← w.whole, ← w.weighs, ← w.left) (omega arith)
+
+  pub room : key + (rest % 10 + 1) * weight < 11 ^ 15
+  room =
+      let b : 11 ^ (16 - (count - n)) ≤ 11 ^ 15 = pow-le-pow_right (lit< tt) {i = 16 - (count - n)} {j = 15} (omega arith) in
+      let k = key_below (count - n) (digits (n + 1) v) (digits_are (n + 1) v) (omega (arith, length_digits (n + 1) v)) in
+      omega (arith, turn_key)
+
+  pub weight_room : weight ≤ 11 ^ 14
+  weight_room = weight_most (count - n) weight (omega arith) w.weighs
+
+  pub turn : Weighed count v (n + 1) (key + (rest % 10 + 1) * weight) (weight * 11) (rest / 10)
+  turn =
+      let f : count + 1 - (n + 1) ≡ count - n = omega arith in
+      let g : count - (n + 1) ≡ count - n - 1 = omega arith in
+      record {
+        whole = rw f turn_key;
+        weighs = rw g (next_weight (count - n) weight (omega arith) (omega arith) w.weighs);
+        left = rw (add-one n, pow-suc, ← div-div-eq-div-mul) (ap (λ x. x / 10) w.left);
+      }
+
+-- All digits of the count are weighed: the value has more where something is left.
+module _ {count v n key weight rest : ℕ} (w : Weighed count v n key weight rest) (e : n ≡ count) (p : 0 < count) (h : count ≤ 15) where
+  left_over : rest ≡ v / 10 ^ count
+  left_over = (rw e at w).left
+
+  pub more_digits : (rest ≡ 0 → ⊥) → code_key count v ≡ Err OutOfRange
+  more_digits d =
+      let l : 1 ≤ v / 10 ^ count = omega (arith, left_over) in
+      large count v p h (omega (arith, (le-div_iff_mul-le (ten count)).0 l))
+
+  pub all_digits : rest ≡ 0 → code_key count v ≡ Ok key
+  all_digits z =
+      let f : count + 1 - count ≡ 1 = omega arith in
+      let l : v / 10 ^ count < 1 = omega (arith, left_over) in
+      rw ((rw e at w).whole, f) (sent count v p h (omega (arith, (div-lt_iff_lt-mul (ten count)).0 l)))
+
+pub ruleset weighing = (no_count, many, begins, room, weight_room)

@@ -1,32 +1,32 @@
 -- Digit strings, for every length together: a string and its count of digits and value determine each other, and what makes
 -- a string a number. Assumes nothing.
 use mathlib.Core.Path.{◌≡◌, refl, ap, ap₂, sym, ◌∙◌}
-use mathlib.Core.Bool.{true, false, ◌&&◌, not}
+use mathlib.Core.Bool.{true, false}
 use mathlib.Core.List.{List, [], ◌∷◌, ◌++◌, map}
 use Prim.Native.Nat.{ℕ, zero, suc, ◌+◌, ◌*◌, ◌/◌, ◌%◌, ◌^◌, ◌≤◌, ◌<◌}
-use native.Mathlib.Nat.{pow-succ', div-one, div-div-eq-div-mul, mod-eq_of_lt, mod-lt, one-le-pow, mod-one}
+use native.Mathlib.Nat.{pow-succ', div-one, div-div-eq-div-mul, mod-eq_of_lt, mul-add-div_right, one-le-pow, mod-one}
 use native.Mathlib.Omega.{arith}
-use borrow.Author.Tests.{le-leb, leb-true, ne_eqb}
-use lib.Arith.{digits_div, digits_mod, digits_lt, mod-mul}
-use lib.Dec.{leb, lit<}
+use lib.Arith.{digits_div, digits_lt, mod-mul}
+use lib.Dec.{lit<}
 use lib.ListN.{length, take}
-use Rattle.dial_code.specs.Digits.{digits, value, every, is_digit, is_number, starts_with_zero, is_ascii, digit_of, is_dialled}
-use Rattle.dial_code.proofs.Tests.{both, and_left_true, and_right_false}
+use Rattle.dial_code.specs.Digits.{digits, value, every, is_digit, is_number, is_ascii, digit_of, is_dialled}
+use Rattle.std.proofs.lemmas.Bool.{and_parts}
+use Rattle.std.proofs.lemmas.Bool.Decides.{nat_tests}
 
 -- a string of digits starts with one, and goes on with a string of digits
 pub first_digit : (d : ℕ) (ds : List ℕ) → every is_digit (d ∷ ds) ≡ true → d < 10
-first_digit d ds e = omega (arith, leb-true d 9 (both (is_digit d) (every is_digit ds) e).0)
+first_digit d ds e = grind (arith, nat_tests)
 
 pub rest_digits : (d : ℕ) (ds : List ℕ) → every is_digit (d ∷ ds) ≡ true → every is_digit ds ≡ true
-rest_digits d ds e = (both (is_digit d) (every is_digit ds) e).1
+rest_digits d ds e = grind (arith, nat_tests)
 
 -- So does a beginning of it.
 pub digits_take : (n : ℕ) (ds : List ℕ) → every is_digit ds ≡ true → every is_digit (take n ds) ≡ true
 digits_take zero ds e = refl
 digits_take (suc n) [] e = refl
 digits_take (suc n) (d ∷ ds) e =
-    let p = both (is_digit d) (every is_digit ds) e in
-    and_left_true (every is_digit (take n ds)) p.0 ∙ digits_take n ds p.1
+    let ih = digits_take n ds in
+    grind (arith, nat_tests)
 
 -- A value written with a count of digits has that many, and they are digits.
 pub length_digits : (k v : ℕ) → length (digits k v) ≡ k
@@ -37,11 +37,9 @@ length_digits (suc k) v = ap suc (length_digits k v)
 pub digits_are : (k v : ℕ) → every is_digit (digits k v) ≡ true
 unfolding digits
 digits_are zero v = refl
-digits_are (suc k) v =
-    let h : v / 10 ^ k % 10 ≤ 9 = omega arith in
-    and_left_true _ (le-leb _ _ h) ∙ digits_are k v
+digits_are (suc k) v = let ih = digits_are k v in grind (arith, nat_tests)
 
-ten : (k : ℕ) → 0 < 10 ^ k
+pub ten : (k : ℕ) → 0 < 10 ^ k
 ten k = one-le-pow k 10 (lit< tt)
 
 -- a value of one place more: its first digit and the rest
@@ -64,17 +62,13 @@ value_below [] e = lit< tt
 value_below (d ∷ ds) e =
     rw (pow-succ' 10 (length ds)) (digits_lt (first_digit d ds e) (value_below ds (rest_digits d ds e)))
 
--- digits depend on a value's remainder alone
-digits_same : (k v u : ℕ) → v % 10 ^ k ≡ u % 10 ^ k → digits k v ≡ digits k u
+-- what is behind the count makes no difference
+digits_high : (k d v : ℕ) → digits k (d * 10 ^ k + v) ≡ digits k v
 unfolding digits
-digits_same zero v u e = refl
-digits_same (suc k) v u e =
-    let p = mod-lt v (ten k) in
-    let q = mod-lt u (ten k) in
-    let w : (v / 10 ^ k % 10) * 10 ^ k + v % 10 ^ k ≡ (u / 10 ^ k % 10) * 10 ^ k + u % 10 ^ k = sym (split k v) ∙ e ∙ split k u in
-    let a : v / 10 ^ k % 10 ≡ u / 10 ^ k % 10 = sym (digits_div _ p) ∙ ap (λ (x : ℕ). x / 10 ^ k) w ∙ digits_div _ q in
-    let b : v % 10 ^ k ≡ u % 10 ^ k = sym (digits_mod _ p) ∙ ap (λ (x : ℕ). x % 10 ^ k) w ∙ digits_mod _ q in
-    ap₂ ◌∷◌ a (digits_same k v u b)
+digits_high zero d v = refl
+digits_high (suc k) d v =
+    let f : d * 10 ^ suc k + v ≡ d * 10 * 10 ^ k + v = rw (pow-succ' 10 k) (omega arith) in
+    rw (f, mul-add-div_right (ten k) (d * 10) v, digits_high k (d * 10) v) (ap (λ (x : ℕ). x ∷ digits k v) (omega arith))
 
 -- A digit string comes back from its length and its value.
 pub digits_value : (ds : List ℕ) → every is_digit ds ≡ true → digits (length ds) (value ds) ≡ ds
@@ -82,12 +76,7 @@ unfolding digits value
 digits_value [] e = refl
 digits_value (d ∷ ds) e =
     let r = rest_digits d ds e in
-    let l = value_below ds r in
-    let a : (d * 10 ^ length ds + value ds) / 10 ^ length ds % 10 ≡ d =
-    ap (λ (x : ℕ). x % 10) (digits_div d l) ∙ mod-eq_of_lt (first_digit d ds e) in
-    let b : digits (length ds) (d * 10 ^ length ds + value ds) ≡ ds =
-    digits_same (length ds) _ _ (digits_mod d l ∙ sym (mod-eq_of_lt l)) ∙ digits_value ds r in
-    ap₂ ◌∷◌ a b
+    rw (digits_div d (value_below ds r), mod-eq_of_lt (first_digit d ds e), digits_high (length ds) d (value ds), digits_value ds r)
 
 -- The last digit is the value's remainder by ten.
 pub digits_last : (k v : ℕ) → digits (suc k) v ≡ digits k (v / 10) ++ (v % 10 ∷ [])
@@ -105,29 +94,19 @@ no_digits = refl
 
 pub zero_first : (ds : List ℕ) → is_number (0 ∷ ds) ≡ false
 unfolding is_number
-zero_first ds =
-    and_right_false (leb 1 (suc (length ds)))
-    (and_right_false (leb (suc (length ds)) 15) (and_right_false (every is_digit ds) refl))
+zero_first ds = grind (arith, nat_tests)
 
 pub number_cons : (d : ℕ) (ds : List ℕ) → 0 < d → every is_digit (d ∷ ds) ≡ true → length ds ≤ 14 → is_number (d ∷ ds) ≡ true
 unfolding is_number
-number_cons d ds p e h =
-    rw (
-      le-leb 1 (suc (length ds)) (omega arith),
-      le-leb (suc (length ds)) 15 (omega arith),
-      e,
-      ne_eqb d 0 (λ (z : d ≡ 0). omega arith),
-    )
+number_cons d ds p e h = rw e (grind (arith, nat_tests))
 
 pub number_facts : (ds : List ℕ) → is_number ds ≡ true → (length ds ≤ 15) × (every is_digit ds ≡ true)
 unfolding is_number
-number_facts ds e =
-    let p = both (leb (length ds) 15) (every is_digit ds && not (starts_with_zero ds)) (both (leb 1 (length ds)) _ e).1 in
-    (leb-true _ _ p.0, (both (every is_digit ds) _ p.1).0)
+number_facts ds e = grind (arith, nat_tests)
 
 pub dialled_digits :
     (s : List ℕ)
     → is_dialled s ≡ true
     → (length (map digit_of s) ≤ 15) × (every is_digit (map digit_of s) ≡ true)
 unfolding is_dialled
-dialled_digits s h = number_facts (map digit_of s) (both (every is_ascii s) (is_number (map digit_of s)) h).1
+dialled_digits s h = number_facts (map digit_of s) (and_parts (every is_ascii s) (is_number (map digit_of s)) h).1

@@ -1,9 +1,10 @@
 -- The count of digits and the value of the code that a word is the key of: the places of a word one by one, as key_code reads
 -- them. Assumes nothing.
 use mathlib.Core.Path.{◌≡◌, refl, ap, ap₂, ◌∙◌}
-use mathlib.Core.List.{List, []}
-use Prim.Native.Nat.{ℕ, zero, suc, ◌+◌, ◌-◌, ◌*◌, ◌/◌, ◌%◌, ◌^◌, ◌≤◌, ◌<◌}
-use native.Mathlib.Nat.{pow-suc, pow-le-pow_right, add-mul, mul_assoc}
+use mathlib.Core.List.{List, [], ◌∷◌}
+use Prim.Native.Nat.{ℕ, suc, ◌+◌, ◌-◌, ◌*◌, ◌/◌, ◌%◌, ◌^◌, ◌≤◌, ◌<◌}
+use native.Mathlib.Nat.{pow-suc, pow-succ', pow-le-pow_right, add-mul}
+use native.Mathlib.Numerals.{add-one}
 use native.Mathlib.Omega.{arith}
 use lib.Dec.{lit<}
 use lib.ListN.{length}
@@ -24,69 +25,63 @@ pub no_code : (w : ℕ) → keys_end ≤ w → code_of w ≡ coded 0 0
 unfolding value
 no_code w h = code_opens w ∙ ap (λ (ds : List ℕ). coded (length ds) (value ds)) (beyond w h)
 
--- What is read of a word's digits and what is left to read are all of them: `left` places of `rest` after a value so far.
-pub record Reads (w left v rest : ℕ) : Type 0 where
-  pub few : left ≤ 15
-  pub below : rest < keys_end
-  pub value_most : v < 10 ^ (15 - left)
-  pub counts : length (digits_of_key w) ≡ 15 - left + length (places_of left rest)
-  pub values : value (digits_of_key w) ≡ v * 10 ^ length (places_of left rest) + value (places_of left rest)
+-- The code of what is read, n digits of value v, with the digits left to read behind it.
+pub with_rest : ℕ → ℕ → List ℕ → Code
+with_rest n v ds = coded (n + length ds) (v * 10 ^ length ds + value ds)
 
-pub starts : (w : ℕ) → w < keys_end → Reads w 15 0 w
+pub with_none : (n v : ℕ) → with_rest n v [] ≡ coded n v
+unfolding with_rest value
+with_none n v = ap₂ coded (omega arith) (omega arith)
+
+with_more : (n v d : ℕ) (ds : List ℕ) → with_rest n v (d ∷ ds) ≡ with_rest (n + 1) (v * 10 + d) ds
+unfolding with_rest value
+with_more n v d ds =
+    let p : v * 10 ^ suc (length ds) ≡ v * 10 * 10 ^ length ds = rw pow-succ' (omega arith) in
+    ap₂ coded (omega arith) (omega (arith, add-mul (v * 10) d (10 ^ length ds)))
+
+-- n digits of a word are read, of value v, and what is left to read of it are the first places of `rest`.
+pub record Reads (w n v rest : ℕ) : Type 0 where
+  pub below : rest < keys_end
+  pub value_most : v < 10 ^ n
+  pub whole : code_of w ≡ with_rest n v (places_of (15 - n) rest)
+
+pub starts : (w : ℕ) → w < keys_end → Reads w 0 0 w
+unfolding with_rest
 starts w h =
     record {
-      few = omega arith;
       below = h;
-      value_most = omega arith;
-      counts = omega (arith, ap length (all_places w h));
-      values = omega (arith, ap value (all_places w h));
+      value_most = lit< tt;
+      whole = code_opens w ∙ ap (λ (ds : List ℕ). coded (length ds) (value ds)) (all_places w h) ∙ ap₂ coded (omega arith) (omega arith);
     }
 
--- A value so far fits a word, with a digit behind it.
-pub value_few : (w left v rest : ℕ) → Reads w left v rest → v < 10 ^ 15
-value_few w left v rest r =
-    let p : 10 ^ (15 - left) ≤ 10 ^ 15 = pow-le-pow_right (lit< tt) {i = 15 - left} {j = 15} (omega arith) in
-    omega (arith, r.value_most)
+module _ {w n v rest : ℕ} (r : Reads w n v rest) where
+  -- After the last place.
+  pub all_read : n ≡ 15 → code_of w ≡ coded 15 v
+  unfolding places_of
+  all_read e = rw e at r.whole ∙ with_none 15 v
 
-nothing : (w left v rest : ℕ) → Reads w left v rest → places_of left rest ≡ [] → code_of w ≡ coded (15 - left) v
-unfolding value
-nothing w left v rest r e =
-    let n : 10 ^ length (places_of left rest) ≡ 1 = ap (λ (ds : List ℕ). 10 ^ length ds) e in
-    let m : v * 10 ^ length (places_of left rest) ≡ v * 1 = ap (λ (x : ℕ). v * x) n in
-    let c : length (digits_of_key w) ≡ 15 - left = omega (arith, r.counts, ap length e) in
-    let u : value (digits_of_key w) ≡ v = omega (arith, r.values, ap value e, m) in
-    code_opens w ∙ ap₂ coded c u
+  module _ (h : n < 15) where
+    one_less : 15 - n ≡ suc (15 - (n + 1))
+    one_less = omega arith
 
--- The pass ends at a place that holds no digit, and after the last place.
-pub ends : (w left v rest : ℕ) → Reads w left v rest → 0 < left → rest < first_place → code_of w ≡ coded (15 - left) v
-ends w zero v rest r h l = absurd (omega arith)
-ends w (suc k) v rest r h l = nothing w (suc k) v rest r (places_none k rest (omega arith))
+    -- A place that holds no digit ends the pass; one that holds a digit has room for it.
+    pub ends : rest < first_place → code_of w ≡ coded n v
+    ends l = r.whole ∙ rw (one_less, places_none (15 - (n + 1)) rest (omega arith)) (with_none n v)
 
-pub all_read : (w left v rest : ℕ) → Reads w left v rest → left ≡ 0 → code_of w ≡ coded 15 v
-unfolding places_of
-all_read w zero v rest r h = nothing w zero v rest r refl
-all_read w (suc k) v rest r h = absurd (omega arith)
+    pub room : v * 10 + 9 < 10 ^ 15
+    room =
+        let p : 10 ^ n ≤ 10 ^ 14 = pow-le-pow_right (lit< tt) {i = n} {j = 14} (omega arith) in
+        omega (arith, r.value_most)
 
--- One place: its digit goes behind the value so far.
-pub turn : (w left v rest : ℕ) → Reads w left v rest → 0 < left → first_place ≤ rest
-    → Reads w (left - 1) (v * 10 + (rest / first_place - 1)) (rest % first_place * 11)
-unfolding value
-turn w zero v rest r h l = absurd (omega arith)
-turn w (suc k) v rest r h l =
-    let p = places_some k rest (omega arith) in
-    let d : ℕ = rest / first_place - 1 in
-    let m : ℕ = length (places_of k (rest % first_place * 11)) in
-    let n : length (places_of (suc k) rest) ≡ suc m = ap length p in
-    let u : value (places_of (suc k) rest) ≡ d * 10 ^ m + value (places_of k (rest % first_place * 11)) = ap value p in
-    let x : v * 10 ^ length (places_of (suc k) rest) ≡ v * (10 ^ m * 10) =
-    ap (λ (y : ℕ). v * y) (ap (λ (y : ℕ). 10 ^ y) n ∙ pow-suc 10 m) in
-    let j : 15 - k ≡ suc (15 - suc k) = omega (arith, r.few) in
-    let f : suc k - 1 ≡ k = omega arith in
-    rw f
-    (record {
-      few = omega (arith, r.few);
-      below = omega arith;
-      value_most = rw (j, pow-suc 10 (15 - suc k)) (omega (arith, r.value_most, r.below));
-      counts = omega (arith, r.counts, r.few);
-      values = omega (arith, r.values, x, u, add-mul (v * 10) d (10 ^ m), mul_assoc v 10 (10 ^ m), mul_assoc v (10 ^ m) 10);
-    })
+    pub turn : first_place ≤ rest → Reads w (n + 1) (v * 10 + (rest / first_place - 1)) (rest % first_place * 11)
+    turn l =
+        record {
+          below = omega arith;
+          value_most = rw (add-one n, pow-suc 10 n) (omega (arith, r.value_most, r.below));
+          whole =
+              r.whole
+              ∙ rw (one_less, places_some (15 - (n + 1)) rest (omega arith))
+              (with_more n v (rest / first_place - 1) (places_of (15 - (n + 1)) (rest % first_place * 11)));
+        }
+
+pub ruleset reading = (no_code, starts, ends, room, all_read)

@@ -6,7 +6,7 @@ use mathlib.Core.List.{List, [], ◌∷◌}
 use Prim.Native.Nat.{ℕ, zero, suc, ◌+◌, ◌-◌, ◌*◌, ◌/◌, ◌%◌, ◌^◌, ◌≤◌, ◌<◌}
 use native.Mathlib.Nat.{zero-mul, add-zero, pow-suc, pow-succ', one-le-pow, mul-le-mul_right}
 use native.Mathlib.Omega.{arith}
-use borrow.Author.Tests.{lt-ltb, le-ltb, eq-eqb, ne_eqb}
+use borrow.Author.Tests.{lt-ltb, le-ltb, ne_eqb}
 use lib.Arith.{digits_div, digits_mod, digits_lt}
 use lib.Pow.{pow-add}
 use lib.Dec.{eqb, ltb, lit<}
@@ -15,13 +15,15 @@ use lib.Seq.{take_all}
 use Rattle.dial_code.specs.Digits.{every, is_digit, precedes}
 use Rattle.dial_code.specs.Key.{key_from, key, keys_end, first_place, places_of, digits_of_key, prefix_key}
 use Rattle.dial_code.proofs.DigitLaws.{first_digit, rest_digits}
-use Rattle.dial_code.proofs.Tests.{below, equal, above, order}
+use Rattle.std.proofs.Common.{inl, inr}
+use Rattle.std.proofs.lemmas.Bool.{cases_lt}
+use Rattle.std.proofs.lemmas.Bool.Decides.{nat_tests}
 
 eleven : (k : ℕ) → 0 < 11 ^ k
 eleven k = one-le-pow k 11 (lit< tt)
 
--- the places from i on hold less than the place before them weighs
-key_below : (i : ℕ) (ds : List ℕ) → every is_digit ds ≡ true → i + length ds ≤ 16 → key_from i ds < 11 ^ (16 - i)
+-- The places from i on hold less than the place before them weighs.
+pub key_below : (i : ℕ) (ds : List ℕ) → every is_digit ds ≡ true → i + length ds ≤ 16 → key_from i ds < 11 ^ (16 - i)
 unfolding key_from
 key_below i [] e h = eleven (16 - i)
 key_below i (d ∷ ds) e h =
@@ -100,27 +102,10 @@ by_parts :
     → b < weight
     → ltb ((x + 1) * weight + a) ((y + 1) * weight + b) ≡ cond (ltb x y) true (eqb x y && ltb a b)
 by_parts x y weight a b p q =
-    elim (order x y) [
-      | below m ↦ rw (lt-ltb x y m) (yes (omega (arith, mul-le-mul_right weight m)))
-      | equal m ↦ rw (le-ltb x y (omega arith), eq-eqb x y m) (level (ap (λ (z : ℕ). (z + 1) * weight) m))
-      | above m ↦
-          rw (le-ltb x y (omega arith), ne_eqb x y (λ (e : x ≡ y). omega arith))
-          (no (omega (arith, mul-le-mul_right weight m)))
-    ]
-  where
-    yes : (x + 1) * weight + a < (y + 1) * weight + b → ltb ((x + 1) * weight + a) ((y + 1) * weight + b) ≡ true
-    yes = lt-ltb _ _
-
-    no : (y + 1) * weight + b ≤ (x + 1) * weight + a → ltb ((x + 1) * weight + a) ((y + 1) * weight + b) ≡ false
-    no = le-ltb _ _
-
-    level : (x + 1) * weight ≡ (y + 1) * weight → ltb ((x + 1) * weight + a) ((y + 1) * weight + b) ≡ ltb a b
-    level e =
-        elim (order a b) [
-          | below l ↦ rw (lt-ltb a b l) (yes (omega arith))
-          | equal l ↦ rw (le-ltb a b (omega arith)) (no (omega arith))
-          | above l ↦ rw (le-ltb a b (omega arith)) (no (omega arith))
-        ]
+    let f : x < y → (x + 1) * weight + weight ≤ (y + 1) * weight = λ l. omega (arith, mul-le-mul_right weight l) in
+    let g : y < x → (y + 1) * weight + weight ≤ (x + 1) * weight = λ l. omega (arith, mul-le-mul_right weight l) in
+    let e : x ≡ y → (x + 1) * weight ≡ (y + 1) * weight = ap (λ (z : ℕ). (z + 1) * weight) in
+    grind (arith, nat_tests)
 
 order_from :
     (i : ℕ) (ds es : List ℕ)
@@ -189,11 +174,7 @@ parts i (suc n) (d ∷ ds) e h l =
 -- The key of a beginning is the key less its remainder by a power of 11.
 pub key_take : (n : ℕ) (ds : List ℕ) → every is_digit ds ≡ true → length ds ≤ 15 → key (take n ds) ≡ prefix_key (key ds) n
 unfolding key prefix_key
-key_take n ds e h = elim (order n 16) [
-  | below l ↦ within l
-  | equal l ↦ beyond (omega arith)
-  | above l ↦ beyond (omega arith)
-]
+key_take n ds e h = elim (cases_lt n 16) [ inl l ↦ within l | inr l ↦ beyond l ]
   where
     within : n < 16 → key_from 1 (take n ds) ≡ key_from 1 ds - key_from 1 ds % 11 ^ (15 - n)
     within l =

@@ -1,10 +1,10 @@
 -- Keys (document 01, "Codes and countries").
-use Rattle.std.specs.Prelude.{◌≡◌, refl, Bool, true, false, cond, List, [], ◌∷◌, ℕ, zero, suc, ◌+◌, ◌-◌, ◌*◌, ◌/◌, ◌%◌, ◌^◌, eqb, ltb, length}
-use Rattle.refusal.specs.Refusal.{out_of_range}
+use Rattle.std.specs.Prelude.{◌≡◌, refl, Bool, true, false, cond, List, [], ◌∷◌, ℕ, zero, suc, ◌+◌, ◌-◌, ◌*◌, ◌/◌, ◌%◌, ◌^◌, eqb, ltb, length, Result, Ok, Err}
+use Rattle.std.specs.Result.{result_unwrap_or}
 use Rattle.dial_code.specs.Digits.{most_digits, digits, value, is_written}
 use Rattle.dial_code.specs.declared.Code.{Code}
-use Rattle.dial_code.specs.declared.Keyed.{Keyed}
-use Rattle.dial_code.specs.declared.Keyed.TheVariants.{Key, Refused}
+use Rattle.refusal.specs.declared.Refusal.TheVariants.{OutOfRange}
+use Rattle.refusal.specs.declared.Refusal.{Refusal}
 
 -- The sum over the places i of a digit string, counted on from a first place, of (digit + 1) × 11^(15 − i).
 unfoldable pub key_from : ℕ → List ℕ → ℕ
@@ -49,14 +49,14 @@ unfolding digits_of_key value
 code_of w = record { count = length (digits_of_key w); value = value (digits_of_key w) }
 
 -- The key of a code sent as a count of digits and a value, or that one is outside its range.
-unfoldable pub code_key : ℕ → ℕ → Keyed
+unfoldable pub code_key : ℕ → ℕ → Result ℕ Refusal
 unfolding key digits is_written
-code_key count v = cond (is_written count v) (Key (key (digits count v))) (Refused out_of_range)
+code_key count v = cond (is_written count v) (Ok (key (digits count v))) (Err OutOfRange)
 
 -- The same, or 0, which is no key.
 unfoldable pub key_or_zero : ℕ → ℕ → ℕ
-unfolding key digits is_written
-key_or_zero count v = cond (is_written count v) (key (digits count v)) 0
+unfolding code_key
+key_or_zero count v = result_unwrap_or (code_key count v) 0
 
 -- The key of a key's first n digits: the key less its remainder by 11^(15 − n).
 unfoldable pub prefix_key : ℕ → ℕ → ℕ
@@ -118,7 +118,7 @@ sent = refl
 -- code 1, a count of 0 and of 16, a value too large for its count, code 01
 code_keys :
     code_key 1 1 ∷ code_key 0 0 ∷ code_key 16 1 ∷ code_key 2 100 ∷ code_key 2 1 ∷ []
-    ≡ Key 759499667166482 ∷ Refused 4 ∷ Refused 4 ∷ Refused 4 ∷ Key (key (0 ∷ 1 ∷ [])) ∷ []
+    ≡ Ok 759499667166482 ∷ Err OutOfRange ∷ Err OutOfRange ∷ Err OutOfRange ∷ Ok (key (0 ∷ 1 ∷ [])) ∷ []
 unfolding code_key
 code_keys = refl
 

@@ -3,7 +3,9 @@
 
 ghost use Rattle.std.specs.Prelude.{◌≡◌, ◌-◌, ◌^◌, min};
 ghost use Rattle.dial_code.specs.Digits.{most_digits};
-ghost use Rattle.dial_code.specs.Key.{code_key, key_or_zero, code_of, is_gapless};
+ghost use Rattle.dial_code.specs.Key.{code_key, code_of, is_gapless};
+
+use refusal::Refusal;
 
 // At most so many digits.
 pub const MOST_DIGITS: u64 = 15;
@@ -18,21 +20,15 @@ const THREE_PLACES: u64 = 1_331;
 
 pub const FIRST_OF_THREE: u64 = 121;
 
-// The key of a digit string, or why it has none.
-#[derive(Clone, Copy)]
-pub enum Keyed {
-    Key(u64),
-    Refused(u64),
-}
-
 // A code as it is sent: how many digits it has, and their value.
-#[derive(Clone, Copy)]
+#[derive(Clone, Copy, PartialEq, Eq)]
 pub struct Code {
     pub count: u64,
     pub value: u64,
 }
 
-// The weight of a place, 11 to the power 15 - place; 1 from the last place on.
+// The weight of a place, 11 to the power 15 - place; 1 from the last place on. A table: each line read takes a weight, and
+// `u64::pow` is slower.
 pub fn weight_of(place: u64) -> u64
     ensures { result ≡ 11 ^ (most_digits - place) }
 {
@@ -56,7 +52,7 @@ pub fn weight_of(place: u64) -> u64
     }
 }
 
-// 10 to the power n: values of n digits are below it. From 15 on, that of 15 digits.
+// 10 to the power n: values of n digits are below it. From 15 on, that of 15 digits. A table, as `u64::pow` is slower.
 pub fn ten_to(n: u64) -> u64
     ensures { result ≡ 10 ^ min n most_digits }
 {
@@ -80,44 +76,31 @@ pub fn ten_to(n: u64) -> u64
     }
 }
 
-// The key of a code sent as a count of digits and a value; refusal 4 where one is outside its range.
-pub fn code_key(count: u64, value: u64) -> Keyed
+// The key of a code sent as a count of digits and a value, or that one is outside its range.
+#[tactic(auto, using(crate::proofs::CountedKeys::weighing))]
+pub fn code_key(count: u64, value: u64) -> Result<u64, Refusal>
     ensures { result ≡ code_key count value }
 {
-    if count == 0 {
-        return Keyed::Refused(refusal::OUT_OF_RANGE);
-    }
-    if MOST_DIGITS < count {
-        return Keyed::Refused(refusal::OUT_OF_RANGE);
+    if count == 0 || MOST_DIGITS < count {
+        return Err(Refusal::OutOfRange);
     }
     let mut weight = weight_of(count);
-    let mut v = value;
-    let mut left = count;
-    let mut key: u64 = 0;
-    while 0 < left {
-        key += (v % 10 + 1) * weight;
+    let mut rest = value;
+    let mut key = 0;
+    for _ in 0..count {
+        key += (rest % 10 + 1) * weight;
         weight *= 11;
-        v /= 10;
-        left -= 1;
+        rest /= 10;
     }
     // The value has more digits.
-    if 0 < v {
-        return Keyed::Refused(refusal::OUT_OF_RANGE);
+    if rest != 0 {
+        return Err(Refusal::OutOfRange);
     }
-    Keyed::Key(key)
+    Ok(key)
 }
 
-// The key of a code sent so; 0, which is no key, where one is outside its range.
-pub fn key_or_zero(count: u64, value: u64) -> u64
-    ensures { result ≡ key_or_zero count value }
-{
-    match code_key(count, value) {
-        Keyed::Key(key) => key,
-        Keyed::Refused(_) => 0,
-    }
-}
-
-// The count of digits and the value of the code that a word is the key of.
+// The code that a word is the key of, as it is sent.
+#[tactic(auto, using(crate::proofs::KeyCode::reading))]
 pub fn key_code(key: u64) -> Code
     ensures { result ≡ code_of key }
 {
@@ -125,19 +108,13 @@ pub fn key_code(key: u64) -> Code
         return Code { count: 0, value: 0 };
     }
     let mut rest = key;
-    let mut left: u64 = MOST_DIGITS;
-    let mut value: u64 = 0;
-    while 0 < left {
+    let mut value = 0;
+    for count in 0..MOST_DIGITS {
         if rest < FIRST_PLACE {
-            return Code {
-                count: MOST_DIGITS - left,
-                value,
-            };
+            return Code { count, value };
         }
-        let place = rest / FIRST_PLACE;
-        value = value * 10 + (place - 1);
-        rest = (rest - place * FIRST_PLACE) * 11;
-        left -= 1;
+        value = value * 10 + (rest / FIRST_PLACE - 1);
+        rest = rest % FIRST_PLACE * 11;
     }
     Code {
         count: MOST_DIGITS,
@@ -146,32 +123,22 @@ pub fn key_code(key: u64) -> Code
 }
 
 // Whether no place of a word that holds a digit stands after one that holds none. Three places are read at a time.
+#[tactic(auto, using(crate::proofs::Gapless::gapless_steps))]
 pub fn is_gapless(word: u64) -> bool
     ensures { result ≡ is_gapless most_digits word }
 {
     let mut rest = word;
-    let mut left: u64 = 5;
-    while 0 < left {
+    for _ in 0..MOST_DIGITS / 3 {
         let places = rest / THIRD_PLACE;
         rest = rest % THIRD_PLACE * THREE_PLACES;
-        // The third holds none.
+        // The third holds none: nothing may follow it, and the first holds one or none of the three does.
         if places % 11 == 0 {
-            if rest != 0 {
-                return false;
-            }
-            if places == 0 {
-                return true;
-            }
-            return FIRST_OF_THREE <= places;
+            return rest == 0 && (places == 0 || FIRST_OF_THREE <= places);
         }
         // It holds one, and the second or the first none.
-        if places % FIRST_OF_THREE < 11 {
+        if places % FIRST_OF_THREE < 11 || places < FIRST_OF_THREE {
             return false;
         }
-        if places < FIRST_OF_THREE {
-            return false;
-        }
-        left -= 1;
     }
     rest == 0
 }

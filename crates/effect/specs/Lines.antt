@@ -7,7 +7,7 @@ use Rattle.rate.specs.declared.Offer.{Offer}
 use Rattle.rate.specs.declared.Offer.TheVariants.{Closed, Blocked, Open}
 use Rattle.notice_line.specs.LineRule.{line_of, listed_day}
 use Rattle.notice_line.specs.declared.Line.{Line}
-use Rattle.notice_header.specs.HeaderRule.{update}
+use Rattle.notice_header.specs.declared.Kind.TheVariants.{Update}
 use Rattle.book_words.specs.Layout.{entry}
 use Rattle.book_words.specs.declared.Entry.{Entry}
 use Rattle.longest_match.specs.Search.{best_found}
@@ -50,7 +50,7 @@ latest_by p found latest (l ∷ ls) = latest_by p found (max latest (effective_b
 
 -- an update received on day 100 with the floor on day 107
 plan : Bool → Plan
-plan noticed = record { kind = update; country = 0; received = 100; floor = 107; noticed = noticed; closing = 107 }
+plan noticed = record { kind = Update; received = 100; floor = 107; noticed = noticed; closing = 107 }
 
 line : Offer → ℕ → Line
 line offer listed = line_of 5 offer listed

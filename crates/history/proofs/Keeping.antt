@@ -12,13 +12,14 @@ use Rattle.rate.specs.OfferWord.{in_range}
 use Rattle.rate.specs.declared.Offer.{Offer}
 use Rattle.rate.specs.declared.Offer.TheVariants.{Closed}
 use Rattle.calendar.specs.Time.{last_day, last_received_day}
-use Rattle.notice.specs.NoticeRule.{Notice, notice, read_notice}
-use Rattle.notice_header.specs.HeaderRule.{replacement}
+use Rattle.notice.specs.NoticeRule.{Notice, read_notice}
+use Rattle.notice_header.specs.HeaderRule.{kind_country}
+use Rattle.std.proofs.Common.{Option, Some, None, Ok}
 use Rattle.book_words.specs.Layout.{most_period}
 use Rattle.notice_line.specs.declared.Line.{Line}
 use Rattle.notice.proofs.LinesLaws.{ValidFrom}
 use Rattle.notice.proofs.NoticeLaws.{notice_valid}
-use Rattle.history.specs.Effect.{Known, listed, Change, from, nothing, wanted, floor_of, noticed, out_of_sequence, is_increase, effective, line_for, closes, first_noticed, closing, listed_change, change_of, changed, latest_effective, after_notice}
+use Rattle.history.specs.Effect.{Known, is_replacement, listed, Change, from, nothing, wanted, floor_of, noticed, out_of_sequence, is_increase, effective, line_for, closes, first_noticed, closing, listed_change, change_of, changed, latest_effective, after_notice}
 
 -- What reading a notice tells of its lines.
 pub record GoodLine (l : Line) : Type 0 where
@@ -56,7 +57,7 @@ module _ (period : ℕ) (p : period ≤ most_period) (before : Known) (n : Notic
 
   pub effective_by_law : (l : Line) → GoodLine l → effective period before n l ≤ last_day
   unfolding effective
-  effective_by_law l h = go (eqb n.kind replacement || (out_of_sequence before n || is_increase before n l))
+  effective_by_law l h = go (is_replacement n.kind || (out_of_sequence before n || is_increase before n l))
     where
       go : (t : Bool) → cond t (noticed period n l) (wanted n l) ≤ last_day
       go true = noticed_by l h
@@ -64,7 +65,7 @@ module _ (period : ℕ) (p : period ≤ most_period) (before : Known) (n : Notic
 
   pub closing_by : closing period n ≤ last_day
   unfolding closing
-  closing_by = go (eqb n.kind replacement) n.lines g.lines
+  closing_by = go (is_replacement n.kind) n.lines g.lines
     where
       first_by : (ls : List Line) → GoodLines ls → first_noticed period n ls ≤ last_day
       first_by [] h = omega (arith, g.received)
@@ -154,14 +155,14 @@ keeps period p before n g s =
       latest = latest_by_law period p before n g n.lines g.lines s.latest;
     }
 
-good_lines : (named before last : ℕ) (ls : List Line) → ValidFrom named before last ls → GoodLines ls
+good_lines : (named : Option ℕ) (before : Option Line) (ls : List Line) → ValidFrom named before ls → GoodLines ls
 unfolding ValidFrom
-good_lines named before last [] v = tt
-good_lines named before last (l ∷ ls) v =
-    (record { code = v.0.allowed; offer = v.0.is_in_range; day = v.0.few }, good_lines named l.key l.listed ls v.1)
+good_lines named before [] v = tt
+good_lines named before (l ∷ ls) v =
+    (record { code = v.0.allowed; offer = v.0.is_in_range; day = v.0.few }, good_lines named (Some l) ls v.1)
 
 -- A notice that is read is good.
-pub good : (s : List ℕ) (n : Notice) → read_notice s ≡ notice n → Good n
+pub good : (s : List ℕ) (n : Notice) → read_notice s ≡ Ok n → Good n
 good s n e =
     let v = notice_valid s n e in
-    record { received = v.received_most; lines = good_lines n.country 0 0 n.lines v.lines_valid }
+    record { received = v.received_most; lines = good_lines (kind_country n.kind) None n.lines v.lines_valid }

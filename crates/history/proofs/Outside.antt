@@ -3,47 +3,50 @@
 use mathlib.Core.Path.{◌≡◌, refl, ap, ap₂, sym, ◌∙◌}
 use mathlib.Core.Bool.{Bool, true, false, cond, ◌||◌, true≢false}
 use mathlib.Core.List.{List, [], ◌∷◌, map}
-use mathlib.Core.Logic.{◌≢◌, ⊎_elim}
-use Prim.Native.Nat.{ℕ, zero, suc, ◌≤◌, ◌<◌}
+use mathlib.Core.Logic.{◌≢◌}
+use Prim.Native.Nat.{ℕ, zero, suc, ◌≤◌}
 use native.Mathlib.Omega.{arith}
-use borrow.Author.Tests.{le-leb, leb-true, eq-eqb, ne_eqb, eqb-true}
+use borrow.Author.Tests.{le-leb, leb-true, eq-eqb, ne_eqb}
 use lib.Dec.{eqb, leb, ltb}
 use lib.ListN.{length, take, length-take}
 use lib.Seq.{take-take}
 use Rattle.dial_code.specs.Digits.{every, is_digit, digit_of, is_dialled, value}
 use Rattle.dial_code.specs.Key.{key}
 use Rattle.country_code.specs.CountryCode.{one_digit, country_digits, country, country_of_key}
-use Rattle.country_code.specs.declared.Country.{Country}
-use Rattle.country_code.specs.declared.Country.TheVariants.{Code, None}
 use Rattle.dial_code.proofs.DigitLaws.{digits_take, dialled_digits}
 use Rattle.country_code.proofs.CountryLaws.{country_opens, country_of_key_law}
 use Rattle.allowed_code.proofs.CodeLaws.{without_country}
-use Rattle.refusal.specs.Refusal.{book_too_short}
 use Rattle.calendar.specs.Time.{is_day}
 use Rattle.calendar.specs.declared.Day.{Day}
 use Rattle.rate.specs.declared.Offer.TheVariants.{Closed}
-use Rattle.notice_header.specs.HeaderRule.{full, partial, replacement}
+use Rattle.notice_header.specs.HeaderRule.{kind_country}
+use Rattle.notice_header.specs.declared.Kind.{Kind}
+use Rattle.notice_header.specs.declared.Kind.TheVariants.{Full, Partial, Update, Replacement}
 use Rattle.notice.specs.NoticeRule.{Notice, read_notice}
 use Rattle.notice_line.specs.declared.Line.{Line}
 use Rattle.notice.proofs.LinesLaws.{ValidFrom}
 use Rattle.notice.proofs.NoticeLaws.{Valid}
-use Rattle.book_words.specs.Layout.{header_words, period_of, held}
+use Rattle.book_words.specs.Layout.{header_words, period_of, held, entries_of}
 use Rattle.book.specs.Soundness.{sound}
 use Rattle.longest_match.specs.Match.{matched}
-use Rattle.book.specs.Answers.{book_refusal}
+use Rattle.book.specs.Answers.{check_book}
 use Rattle.lookup.specs.Lookup.{lookup}
-use Rattle.lookup.specs.declared.Lookup.TheVariants.{Found}
 use Rattle.book.proofs.Headers.{sound_book}
 use Rattle.book_words.proofs.BookWords.{entries_back}
 use Rattle.book.proofs.SoundBooks.{sound_back}
 use Rattle.longest_match.proofs.Matching.{status_on, matched_alike}
 use Rattle.book.proofs.Usable.{usable_book, usable_sound}
-use Rattle.lookup.proofs.Lookups.{no_number, no_day, answered}
-use Rattle.history.specs.Effect.{Known, unlisted, Change, from, nothing, line_for, same_country, named_by, in_country, closes}
+use Rattle.book.specs.Status.{offer_in}
+use Rattle.longest_match.specs.declared.Answer.{Answer}
+use Rattle.history.specs.Effect.{Known, unlisted, Change, from, nothing, line_for, same_country, named_by, in_country, closes_as, closes}
 use Rattle.history.specs.Effect.{closing, listed_change, change_of, changed}
-use Rattle.history.specs.Applying.{in_book, after_book, new_entries, read_by, apply_refusal, new_book}
+use Rattle.history.specs.Applying.{in_book, after_book, new_entries, judged_by, apply_notice, new_book}
 use Rattle.history.proofs.Keeping.{Good}
 use Rattle.history.proofs.Books.{standing_book, standing_after, new_entries_sound, gives_after}
+use Rattle.refusal.specs.Steps.{◌>>=◌}
+use Rattle.refusal.specs.declared.Refusal.{Refusal}
+use Rattle.refusal.specs.declared.Refusal.TheVariants.{BookTooShort, NotANumber, TimeOutOfRange}
+use Rattle.std.proofs.Common.{Result, Ok, Err, Option, Some, None}
 
 -- Beginnings of digit strings.
 
@@ -63,12 +66,12 @@ same_digits (suc zero) (a ∷ b ∷ s) h = go (one_digit a) _ h
 same_digits (suc (suc m)) (a ∷ b ∷ s) h = refl
 
 -- The country of a beginning that has one is that of the whole.
-pub prefix_country : (m : ℕ) (ds : List ℕ) {c : ℕ} → country (take m ds) ≡ Code c → country ds ≡ Code c
+pub prefix_country : (m : ℕ) (ds : List ℕ) {c : ℕ} → country (take m ds) ≡ Some c → country ds ≡ Some c
 prefix_country m ds {c} e = go (leb (country_digits (take m ds)) (length (take m ds))) refl (sym (country_opens (take m ds)) ∙ e)
   where
     go : (t : Bool) → leb (country_digits (take m ds)) (length (take m ds)) ≡ t
-        → cond t (Code (value (take (country_digits (take m ds)) (take m ds)))) None ≡ Code c
-        → country ds ≡ Code c
+        → cond t (Some (value (take (country_digits (take m ds)) (take m ds)))) None ≡ Some c
+        → country ds ≡ Some c
     go true p q =
         let h : country_digits (take m ds) ≤ length (take m ds) = leb-true _ _ p in
         let s : country_digits (take m ds) ≡ country_digits ds = same_digits m ds h in
@@ -87,8 +90,8 @@ pub beginning_country :
     (m : ℕ) (ds : List ℕ) {c : ℕ}
     → every is_digit ds ≡ true
     → length ds ≤ 15
-    → country_of_key (key (take m ds)) ≡ Code c
-    → country_of_key (key ds) ≡ Code c
+    → country_of_key (key (take m ds)) ≡ Some c
+    → country_of_key (key ds) ≡ Some c
 beginning_country m ds e h p =
     let l = length-take m ds in
     country_of_key_law ds e h
@@ -100,7 +103,7 @@ or_false : (a b : Bool) → (a || b) ≡ false → (a ≡ false) × (b ≡ false
 or_false true b e = absurd (true≢false e)
 or_false false b e = (refl, e)
 
-module _ (k c : ℕ) (at : country_of_key k ≡ Code c) where
+module _ (k c : ℕ) (at : country_of_key k ≡ Some c) where
   -- No line is of a code of another country.
   not_listed : (ls : List Line) → named_by ls k ≡ false → line_for k ls ≡ unlisted
   unfolding named_by line_for
@@ -112,7 +115,7 @@ module _ (k c : ℕ) (at : country_of_key k ≡ Code c) where
       same : (l : Line) → l.key ≡ k → same_country (country_of_key l.key) (country_of_key k) ≡ false → ⊥
       same l q e =
           true≢false
-          (sym (ap (λ (x : Country). same_country x (Code c)) (ap country_of_key q ∙ at) ∙ eq-eqb c c refl)
+          (sym (ap (λ (x : Option ℕ). same_country x (Some c)) (ap country_of_key q ∙ at) ∙ eq-eqb c c refl)
           ∙ ap (same_country (country_of_key l.key)) (sym at)
           ∙ e)
 
@@ -120,33 +123,32 @@ module _ (k c : ℕ) (at : country_of_key k ≡ Code c) where
   other_country :
       (named : ℕ) (ls : List Line)
       → 1 ≤ length ls
-      → 0 < named
-      → ValidFrom named 0 0 ls
+      → ValidFrom (Some named) None ls
       → named_by ls k ≡ false
       → in_country named (country_of_key k) ≡ false
   unfolding named_by ValidFrom
-  other_country named [] h p v e = absurd (omega arith)
-  other_country named (l ∷ ls) h p v e =
-      let q : country_of_key l.key ≡ Code named = ⊎_elim (λ z. absurd (omega arith)) (λ z. z) v.0.inside in
+  other_country named [] h v e = absurd (omega arith)
+  other_country named (l ∷ ls) h v e =
+      let q : country_of_key l.key ≡ Some named = v.0.inside named refl in
       let s : eqb named c ≡ false =
       ap₂ same_country (sym q) (sym at) ∙ (or_false (same_country (country_of_key l.key) (country_of_key k)) (named_by ls k) e).0 in
       ap (in_country named) at ∙ ne_eqb c named (λ z. true≢false (sym (eq-eqb named c (sym z)) ∙ s))
 
-  not_closed : (n : Notice) → Valid n → n.kind ≢ full → named_by n.lines k ≡ false → closes n k ≡ false
+  not_closed : (n : Notice) → Valid n → n.kind ≢ Full → named_by n.lines k ≡ false → closes n k ≡ false
   unfolding closes
-  not_closed n v f e = rw (ne_eqb n.kind full f) (go (eqb n.kind partial) (eqb n.kind replacement) refl)
+  not_closed n v f e = go n.kind f v.lines_valid
     where
-      go : (t u : Bool) → eqb n.kind replacement ≡ u
-          → cond t (named_by n.lines k) (cond u (in_country n.country (country_of_key k)) false) ≡ false
-      go true u p = e
-      go false true p = other_country n.country n.lines v.some_lines (v.named (eqb-true _ _ p)) v.lines_valid e
-      go false false p = refl
+      go : (kind : Kind) → kind ≢ Full → ValidFrom (kind_country kind) None n.lines → closes_as kind n.lines k ≡ false
+      go Full g w = absurd (g refl)
+      go Partial g w = e
+      go Update g w = refl
+      go (Replacement country) g w = other_country country n.lines v.some_lines w e
 
   -- A notice that is not full and does not name the country of a code does nothing to it.
   pub not_changed :
       (period : ℕ) (before : Known) (n : Notice)
       → Valid n
-      → n.kind ≢ full
+      → n.kind ≢ Full
       → named_by n.lines k ≡ false
       → change_of period before n k ≡ nothing
   unfolding change_of
@@ -157,15 +159,15 @@ module _ (k c : ℕ) (at : country_of_key k ≡ Code c) where
 -- Lookups.
 
 -- a book that an apply does not refuse is sound
-pub usable_old : (ws bytes : List ℕ) (len : ℕ) → apply_refusal ws bytes len ≡ 0 → sound ws ≡ true
-unfolding apply_refusal
-usable_old ws bytes len e = usable_sound ws (go (eqb (book_refusal ws) 0) refl e)
+pub usable_old : (ws bytes : List ℕ) (len : ℕ) (n : Notice) → apply_notice ws bytes len ≡ Ok n → sound ws ≡ true
+unfolding apply_notice
+usable_old ws bytes len n e = usable_sound ws (go (check_book ws) refl e)
   where
-    go : (t : Bool) → eqb (book_refusal ws) 0 ≡ t
-        → cond t (cond (ltb len header_words) book_too_short (read_by ws len (read_notice bytes))) (book_refusal ws) ≡ 0
-        → book_refusal ws ≡ 0
-    go true p q = eqb-true _ _ p
-    go false p q = q
+    go : (r : Result (Unit {0}) Refusal) → check_book ws ≡ r
+        → (r >>= λ u. cond (ltb len header_words) (Err BookTooShort) (read_notice bytes >>= λ m. judged_by ws m len)) ≡ Ok n
+        → check_book ws ≡ Ok tt
+    go (Ok u) p q = p
+    go (Err r) p q = absurd (cc)
 
 -- the book after an accepted notice is sound, and gives what is known after it
 pub new_sound :
@@ -190,7 +192,7 @@ named_same (l ∷ ls) j k e = rw (e, named_same ls j k e)
 
 -- A notice that is not full changes the status of no beginning of a number outside the countries that it names: a beginning with
 -- no country is no code, and another has the number's.
-module _ (ws : List ℕ) (n : Notice) (ds : List ℕ) (h : sound ws ≡ true) (g : Good n) (v : Valid n) (f : n.kind ≢ full) where
+module _ (ws : List ℕ) (n : Notice) (ds : List ℕ) (h : sound ws ≡ true) (g : Good n) (v : Valid n) (f : n.kind ≢ Full) where
   beginning_kept :
       every is_digit ds ≡ true
       → length ds ≤ 15
@@ -202,10 +204,10 @@ module _ (ws : List ℕ) (n : Notice) (ds : List ℕ) (h : sound ws ≡ true) (g
       k : ℕ
       k = key (take m ds)
 
-      go : (x : Country) → country_of_key k ≡ x → (after_book ws n).status k d ≡ (in_book ws).status k d
+      go : (x : Option ℕ) → country_of_key k ≡ x → (after_book ws n).status k d ≡ (in_book ws).status k d
       go None p =
           (standing_after ws n h g).closed k d (without_country k p) ∙ sym ((standing_book ws h).closed k d (without_country k p))
-      go (Code c) p =
+      go (Some c) p =
           ap (λ (x : Change). changed x d ((in_book ws).status k d))
           (not_changed k c p (period_of ws) (in_book ws) n v f
           (named_same n.lines k (key ds) (p ∙ sym (beginning_country m ds e l p)) ∙ u))
@@ -216,16 +218,20 @@ pub outside_new :
     → sound ws ≡ true
     → Good n
     → Valid n
-    → n.kind ≢ full
+    → n.kind ≢ Full
     → sound (new_book ws len n) ≡ true
     → named_by n.lines (key (map digit_of number)) ≡ false
     → lookup (new_book ws len n) number day ≡ lookup ws number day
-outside_new ws n len number day h g v f s u = by_number (is_dialled number) refl (is_day day) refl
+unfolding lookup
+outside_new ws n len number day h g v f s u = rw (new, old) (by_number (is_dialled number) refl)
   where
-    old : book_refusal ws ≡ 0
+    by_day : List ℕ → Result Answer Refusal
+    by_day book = cond (is_day day) (Ok (matched (λ k. offer_in (entries_of book) k day.0) (map digit_of number))) (Err TimeOutOfRange)
+
+    old : check_book ws ≡ Ok tt
     old = usable_book ws (sound_book ws h).long h
 
-    new : book_refusal (new_book ws len n) ≡ 0
+    new : check_book (new_book ws len n) ≡ Ok tt
     new = usable_book (new_book ws len n) (sound_book (new_book ws len n) s).long s
 
     kept : is_dialled number ≡ true
@@ -238,20 +244,18 @@ outside_new ws n len number day h g v f s u = by_number (is_dialled number) refl
         ap (λ (x : Known). x.status (key (take m (map digit_of number))) day.0) (new_gives ws n len h g)
         ∙ beginning_kept ws n (map digit_of number) h g v f p.1 p.0 u m day.0)
 
-    by_number : (t : Bool) → is_dialled number ≡ t → (d : Bool) → is_day day ≡ d
-        → lookup (new_book ws len n) number day ≡ lookup ws number day
-    by_number true i true d =
-        answered (new_book ws len n) number day new i d ∙ ap Found (kept i) ∙ sym (answered ws number day old i d)
-    by_number true i false d = no_day (new_book ws len n) number day new i d ∙ sym (no_day ws number day old i d)
-    by_number false i t d = no_number (new_book ws len n) number day new i ∙ sym (no_number ws number day old i)
+    by_number : (t : Bool) → is_dialled number ≡ t
+        → cond t (by_day (new_book ws len n)) (Err NotANumber) ≡ cond t (by_day ws) (Err NotANumber)
+    by_number true i = ap (λ (a : Answer). cond (is_day day) (Ok a) (Err TimeOutOfRange)) (kept i)
+    by_number false i = refl
 
 pub in_none : (ls : List Line) (k : ℕ) → country_of_key k ≡ None → named_by ls k ≡ false
 unfolding named_by
 in_none [] k e = refl
 in_none (l ∷ ls) k e =
-    ap (λ (x : Country). same_country (country_of_key l.key) x || named_by ls k) e
+    ap (λ (x : Option ℕ). same_country (country_of_key l.key) x || named_by ls k) e
     ∙ rw (none (country_of_key l.key)) (in_none ls k e)
   where
-    none : (x : Country) → same_country x None ≡ false
-    none (Code c) = refl
+    none : (x : Option ℕ) → same_country x None ≡ false
+    none (Some c) = refl
     none None = refl

@@ -4,38 +4,38 @@ use mathlib.Core.Path.{◌≡◌, refl, ap, ap₂, sym, ◌∙◌, fun_ext}
 use mathlib.Core.Bool.{Bool, true, false, cond}
 use mathlib.Core.List.{List, [], ◌∷◌, map}
 use Prim.Native.Nat.{ℕ, ◌≤◌}
-use native.Mathlib.Omega.{arith}
-use borrow.Author.Tests.{ltb-false, leb-true, eq-eqb, eqb-true}
-use lib.Dec.{eqb, leb, ltb}
+use borrow.Author.Tests.{ltb-false, leb-true}
+use lib.Dec.{leb, ltb}
 use lib.ListN.{length}
-use Rattle.refusal.specs.Refusal.{received_earlier, book_too_short, book_full}
 use Rattle.dial_code.specs.Digits.{digit_of, is_dialled}
 use Rattle.rate.specs.OfferWord.{offer_of}
 use Rattle.rate.specs.declared.Offer.TheVariants.{Closed}
 use Rattle.calendar.specs.Time.{is_day}
 use Rattle.calendar.specs.declared.Day.{Day}
-use Rattle.notice.specs.NoticeRule.{Notice, Reading, notice, unread, read_notice}
+use Rattle.notice.specs.NoticeRule.{Notice, read_notice}
 use Rattle.book_words.specs.Layout.{header_words, held, entries_of, book_of, period_of, received_of}
 use Rattle.book.specs.Soundness.{sound}
 use Rattle.book.specs.Status.{status_in, offer_in}
 use Rattle.longest_match.specs.Match.{matched}
-use Rattle.book.specs.Answers.{fresh_refusal, fresh_book, book_refusal}
+use Rattle.book.specs.Answers.{fresh_answer, fresh_book, check_book}
 use Rattle.lookup.specs.Lookup.{lookup}
 use Rattle.book_words.specs.declared.Entry.{Entry}
-use Rattle.lookup.specs.declared.Lookup.TheVariants.{Found}
 use Rattle.book.proofs.Headers.{sound_book}
 use Rattle.book.proofs.Usable.{usable_book}
 use Rattle.book_words.proofs.BookWords.{entries_back}
 use Rattle.book.proofs.SoundBooks.{sound_back}
 use Rattle.book.proofs.FreshBooks.{fresh_sound, fresh_entries}
-use Rattle.notice.proofs.NoticeLaws.{notice_refusals}
 use Rattle.history.specs.Effect.{Known, after_notice}
 use Rattle.history.specs.ChangeDays.{change_days}
-use Rattle.history.specs.Machine.{known, last_received, words, judged, readings, answers, answer_of}
-use Rattle.history.specs.Applying.{in_book, after_book, new_entries, judged_by, read_by, apply_refusal, new_book, applied}
-use Rattle.history.specs.Claim.{Apply, with_notice, accepts, machine_answers, accepted_by, current, book_answers, book_left, Alike}
+use Rattle.history.specs.Machine.{known, last_received, words, judged, answers, answer_of}
+use Rattle.history.specs.Applying.{in_book, after_book, new_entries, judged_by, apply_notice, new_book, written_book, applied}
+use Rattle.history.specs.Claim.{Apply, with_notice, accepts, machine_answers, accepted_by, current_by, current, book_answers, book_left, Alike}
 use Rattle.history.proofs.Keeping.{Good, good}
 use Rattle.history.proofs.Books.{standing_after, new_entries_sound, gives_after, entries_are}
+use Rattle.refusal.specs.Steps.{◌>>=◌}
+use Rattle.refusal.specs.declared.Refusal.{Refusal}
+use Rattle.refusal.specs.declared.Refusal.TheVariants.{BookFull, BookTooShort, ReceivedEarlier}
+use Rattle.std.proofs.Common.{Result, Ok, Err}
 
 -- A book that stands where a history stands: sound, with its notice period, its last received day, and what it gives.
 pub record Linked (ws : List ℕ) (period : ℕ) (accepted : List Notice) : Type 0 where
@@ -45,7 +45,7 @@ pub record Linked (ws : List ℕ) (period : ℕ) (accepted : List Notice) : Type
   pub known_is : in_book ws ≡ known period accepted
 
 -- a sound book is not refused
-usable : (ws : List ℕ) → sound ws ≡ true → book_refusal ws ≡ 0
+usable : (ws : List ℕ) → sound ws ≡ true → check_book ws ≡ Ok tt
 usable ws h = usable_book ws (sound_book ws h).long h
 
 module _ (ws : List ℕ) (period : ℕ) (accepted : List Notice) (l : Linked ws period accepted) where
@@ -58,76 +58,84 @@ module _ (ws : List ℕ) (period : ℕ) (accepted : List Notice) (l : Linked ws 
   same_judgement : (n : Notice) (len : ℕ) → judged_by ws n len ≡ judged period accepted n len
   unfolding judged_by judged
   same_judgement n len =
-      ap₂ (λ (r : ℕ) (es : List Entry). cond (ltb n.received r) received_earlier (cond (leb (length es) (held len)) 0 book_full))
+      ap₂ (λ (r : ℕ) (es : List Entry). cond (ltb n.received r) (Err ReceivedEarlier) (cond (leb (length es) (held len)) (Ok n) (Err BookFull)))
       l.received_is (same_entries n)
 
   -- An apply answers what the machine answers.
-  pub same_answer : (bytes : List ℕ) (len : ℕ) → apply_refusal ws bytes len ≡ answers period accepted bytes len
-  unfolding apply_refusal answers
-  same_answer bytes len = rw (usable ws l.sound) (ap (λ (e : ℕ). cond (ltb len header_words) book_too_short e) (by_reading (read_notice bytes)))
-    where
-      by_reading : (r : Reading) → read_by ws len r ≡ readings period accepted len r
-      by_reading (notice n) = same_judgement n len
-      by_reading (unread e) = refl
+  pub same_answer : (bytes : List ℕ) (len : ℕ) → apply_notice ws bytes len ≡ answers period accepted bytes len
+  unfolding apply_notice answers
+  same_answer bytes len =
+      rw (usable ws l.sound)
+      (ap (λ (judge : Notice → Result Notice Refusal). cond (ltb len header_words) (Err BookTooShort) (read_notice bytes >>= judge))
+      (fun_ext (λ n. same_judgement n len)))
 
 -- What an accepted apply tells.
-pub record Accepted (ws bytes : List ℕ) (len : ℕ) : Type 0 where
+pub record Accepted (ws bytes : List ℕ) (len : ℕ) (n : Notice) : Type 0 where
   pub long : header_words ≤ len
-  pub read : Notice
-  pub reads : read_notice bytes ≡ notice read
-  pub in_order : received_of ws ≤ read.received
-  pub fits : length (new_entries ws read) ≤ held len
+  pub reads : read_notice bytes ≡ Ok n
+  pub in_order : received_of ws ≤ n.received
+  pub fits : length (new_entries ws n) ≤ held len
 
 judged_by_law :
     (ws : List ℕ) (n : Notice) (len : ℕ)
-    → judged_by ws n len ≡ cond (ltb n.received (received_of ws)) received_earlier (cond (leb (length (new_entries ws n)) (held len)) 0 book_full)
+    → judged_by ws n len
+    ≡ cond (ltb n.received (received_of ws)) (Err ReceivedEarlier) (cond (leb (length (new_entries ws n)) (held len)) (Ok n) (Err BookFull))
 unfolding judged_by
 judged_by_law ws n len = refl
 
-pub accepted_facts : (ws bytes : List ℕ) (len : ℕ) → sound ws ≡ true → apply_refusal ws bytes len ≡ 0 → Accepted ws bytes len
-unfolding apply_refusal
-accepted_facts ws bytes len h e = by_length (ltb len header_words) refl (rw (usable ws h) at e)
+pub accepted_facts : (ws bytes : List ℕ) (len : ℕ) (n : Notice) → sound ws ≡ true → apply_notice ws bytes len ≡ Ok n → Accepted ws bytes len n
+unfolding apply_notice
+accepted_facts ws bytes len n h e = by_length (ltb len header_words) refl (rw (usable ws h) at e)
   where
     by_fit :
-        (n : Notice)
+        (m : Notice)
         → header_words ≤ len
-        → read_notice bytes ≡ notice n
-        → received_of ws ≤ n.received
+        → read_notice bytes ≡ Ok m
+        → received_of ws ≤ m.received
         → (t : Bool)
-        → leb (length (new_entries ws n)) (held len) ≡ t
-        → cond t 0 book_full ≡ 0
-        → Accepted ws bytes len
-    by_fit n l q r true p z = record { long = l; read = n; reads = q; in_order = r; fits = leb-true _ _ p }
-    by_fit n l q r false p z = absurd (omega arith)
+        → leb (length (new_entries ws m)) (held len) ≡ t
+        → cond t (Ok m) (Err BookFull) ≡ Ok n
+        → Accepted ws bytes len n
+    by_fit m l q r true p z =
+        let s : m ≡ n = cc in
+        record { long = l; reads = q ∙ z; in_order = rw s at r; fits = rw s at (leb-true _ _ p) }
+    by_fit m l q r false p z = absurd (cc)
 
     by_order :
-        (n : Notice)
+        (m : Notice)
         → header_words ≤ len
-        → read_notice bytes ≡ notice n
+        → read_notice bytes ≡ Ok m
         → (t : Bool)
-        → ltb n.received (received_of ws) ≡ t
-        → cond t received_earlier (cond (leb (length (new_entries ws n)) (held len)) 0 book_full) ≡ 0
-        → Accepted ws bytes len
-    by_order n l q true p z = absurd (omega arith)
-    by_order n l q false p z = by_fit n l q (ltb-false _ _ p) (leb (length (new_entries ws n)) (held len)) refl z
+        → ltb m.received (received_of ws) ≡ t
+        → cond t (Err ReceivedEarlier) (cond (leb (length (new_entries ws m)) (held len)) (Ok m) (Err BookFull)) ≡ Ok n
+        → Accepted ws bytes len n
+    by_order m l q true p z = absurd (cc)
+    by_order m l q false p z = by_fit m l q (ltb-false _ _ p) (leb (length (new_entries ws m)) (held len)) refl z
 
-    by_reading : header_words ≤ len → (r : Reading) → read_notice bytes ≡ r → read_by ws len r ≡ 0 → Accepted ws bytes len
-    by_reading l (notice n) q z = by_order n l q (ltb n.received (received_of ws)) refl (sym (judged_by_law ws n len) ∙ z)
-    by_reading l (unread e) q z = absurd (omega (arith, (notice_refusals bytes e q).0))
+    by_reading :
+        header_words ≤ len
+        → (r : Result Notice Refusal)
+        → read_notice bytes ≡ r
+        → (r >>= λ m. judged_by ws m len) ≡ Ok n
+        → Accepted ws bytes len n
+    by_reading l (Ok m) q z = by_order m l q (ltb m.received (received_of ws)) refl (sym (judged_by_law ws m len) ∙ z)
+    by_reading l (Err r) q z = absurd (cc)
 
-    by_length : (t : Bool) → ltb len header_words ≡ t → cond t book_too_short (read_by ws len (read_notice bytes)) ≡ 0 → Accepted ws bytes len
-    by_length true p z = absurd (omega arith)
+    by_length :
+        (t : Bool)
+        → ltb len header_words ≡ t
+        → cond t (Err BookTooShort) (read_notice bytes >>= λ m. judged_by ws m len) ≡ Ok n
+        → Accepted ws bytes len n
+    by_length true p z = absurd (cc)
     by_length false p z = by_reading (ltb-false len header_words p) (read_notice bytes) refl z
 
 -- What an accepted apply leaves is the new book.
 pub accepted_words :
-    (ws bytes new : List ℕ)
-    → apply_refusal ws bytes (length new) ≡ 0
-    → (n : Notice)
-    → read_notice bytes ≡ notice n
+    (ws bytes new : List ℕ) (n : Notice)
+    → apply_notice ws bytes (length new) ≡ Ok n
     → applied ws bytes new ≡ new_book ws (length new) n
 unfolding applied
-accepted_words ws bytes new e n q = rw (eq-eqb (apply_refusal ws bytes (length new)) 0 e, q)
+accepted_words ws bytes new n e = ap (written_book ws new) e
 
 -- a lookup that nothing refuses
 looked :
@@ -135,7 +143,7 @@ looked :
     → sound ws ≡ true
     → is_dialled number ≡ true
     → is_day day ≡ true
-    → lookup ws number day ≡ Found (matched (λ k. offer_in (entries_of ws) k day.0) (map digit_of number))
+    → lookup ws number day ≡ Ok (matched (λ k. offer_in (entries_of ws) k day.0) (map digit_of number))
 unfolding lookup
 looked ws number day h i d = rw (usable ws h, i, d)
 
@@ -165,26 +173,20 @@ step :
     → Linked ws period accepted
     → Linked (current ws a) period (accepts period accepted a)
 unfolding current accepts
-step ws period accepted a l = go (eqb refusal 0) refl
+step ws period accepted a l = go (apply_notice ws a.bytes (length a.new)) refl
   where
-    refusal : ℕ
-    refusal = apply_refusal ws a.bytes (length a.new)
-
-    same : refusal ≡ answers period accepted a.bytes (length a.new)
+    same : apply_notice ws a.bytes (length a.new) ≡ answers period accepted a.bytes (length a.new)
     same = same_answer ws period accepted l a.bytes (length a.new)
 
-    taken : refusal ≡ 0 → Linked (applied ws a.bytes a.new) period (with_notice accepted (read_notice a.bytes))
-    taken e =
-        let f = accepted_facts ws a.bytes (length a.new) l.sound e in
-        rw (accepted_words ws a.bytes a.new e f.read f.reads, f.reads)
-        (new_linked ws period accepted f.read (length a.new) l (good a.bytes f.read f.reads) f.long f.fits)
-
     go :
-        (t : Bool)
-        → eqb refusal 0 ≡ t
-        → Linked (cond (eqb refusal 0) (applied ws a.bytes a.new) ws) period (cond (eqb (answers period accepted a.bytes (length a.new)) 0) (with_notice accepted (read_notice a.bytes)) accepted)
-    go true e = rw (← same, e) (taken (eqb-true refusal 0 e))
-    go false e = rw (← same, e) l
+        (r : Result Notice Refusal)
+        → apply_notice ws a.bytes (length a.new) ≡ r
+        → Linked (current_by ws (applied ws a.bytes a.new) (apply_notice ws a.bytes (length a.new))) period (with_notice accepted (answers period accepted a.bytes (length a.new)))
+    go (Ok n) e =
+        let f = accepted_facts ws a.bytes (length a.new) n l.sound e in
+        rw (← same, e, accepted_words ws a.bytes a.new n e)
+        (new_linked ws period accepted n (length a.new) l (good a.bytes n f.reads) f.long f.fits)
+    go (Err r) e = rw (← same, e) l
 
 same_answers :
     (ws : List ℕ) (period : ℕ) (accepted : List Notice) (all : List Apply)
@@ -211,10 +213,10 @@ same_lookup :
     → (number : List ℕ) (day : Day)
     → is_dialled number ≡ true
     → is_day day ≡ true
-    → lookup ws number day ≡ Found (answer_of period accepted (map digit_of number) day.0)
+    → lookup ws number day ≡ Ok (answer_of period accepted (map digit_of number) day.0)
 same_lookup ws period accepted l number day i d =
     looked ws number day l.sound i d
-    ∙ ap (λ (k : Known). Found (matched (λ (x : ℕ). k.status x day.0) (map digit_of number))) l.known_is
+    ∙ ap (λ (k : Known). Ok (matched (λ (x : ℕ). k.status x day.0) (map digit_of number))) l.known_is
 
 -- A book that stands where a history stands goes on as the machine does.
 pub alike :
@@ -234,7 +236,7 @@ unfolding offer_in status_in offer_of
 nothing_held x d = refl
 
 -- A fresh book stands where the fresh machine does.
-pub fresh_linked : (len period : ℕ) → fresh_refusal len period ≡ 0 → Linked (fresh_book len period) period []
+pub fresh_linked : (len period : ℕ) → fresh_answer len period ≡ Ok tt → Linked (fresh_book len period) period []
 unfolding fresh_book book_of known
 fresh_linked len period e =
     record {
@@ -251,5 +253,5 @@ fresh_linked len period e =
 -- Demand 3. From a fresh book of any notice period and length that are not refused, over every list of applies: each answers what
 -- the plain machine answers, the entries left are its change days in order, and every lookup in the book left gives its offer
 -- and key, worked from the accepted notices alone.
-pub claim : (len period : ℕ) → fresh_refusal len period ≡ 0 → (all : List Apply) → Alike (fresh_book len period) period [] all
+pub claim : (len period : ℕ) → fresh_answer len period ≡ Ok tt → (all : List Apply) → Alike (fresh_book len period) period [] all
 claim len period e all = alike (fresh_book len period) period [] all (fresh_linked len period e)

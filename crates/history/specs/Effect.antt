@@ -1,16 +1,15 @@
 -- Effective days (document 01, "Effective days"): when each line of a notice takes effect, what a notice closes and when, and
 -- the statuses after it, all worked from what was known before it.
-use Rattle.std.specs.Prelude.{◌≡◌, refl, Bool, true, false, cond, ◌&&◌, ◌||◌, List, [], ◌∷◌, map, ℕ, ◌+◌, max, eqb, leb, ltb}
+use Rattle.std.specs.Prelude.{◌≡◌, refl, Bool, true, false, cond, ◌&&◌, ◌||◌, List, [], ◌∷◌, map, ℕ, ◌+◌, max, eqb, leb, ltb, Option, Some, None}
 use Rattle.dial_code.specs.Key.{key, places_of, digits_of_key}
 use Rattle.country_code.specs.CountryCode.{country, country_of_key}
-use Rattle.country_code.specs.declared.Country.{Country}
-use Rattle.country_code.specs.declared.Country.TheVariants.{Code, None}
 use Rattle.rate.specs.Price.{rate}
 use Rattle.rate.specs.declared.Rate.{Rate}
 use Rattle.rate.specs.declared.Offer.{Offer}
 use Rattle.rate.specs.declared.Offer.TheVariants.{Closed, Blocked, Open}
 use Rattle.notice_line.specs.LineRule.{line_of, listed_day}
-use Rattle.notice_header.specs.HeaderRule.{full, partial, update, replacement}
+use Rattle.notice_header.specs.declared.Kind.{Kind}
+use Rattle.notice_header.specs.declared.Kind.TheVariants.{Full, Partial, Update, Replacement}
 use Rattle.notice.specs.NoticeRule.{Notice}
 use Rattle.notice_line.specs.declared.Line.{Line}
 use Rattle.longest_match.specs.Match.{longest, matched}
@@ -27,6 +26,13 @@ wanted n l = max n.received (listed_day l.listed)
 -- The floor: the received day and the notice period after it.
 abbrev pub floor_of : ℕ → Notice → ℕ
 floor_of period n = n.received + period
+
+-- every line of a replacement waits for the floor
+abbrev pub is_replacement : Kind → Bool
+is_replacement Full = false
+is_replacement Partial = false
+is_replacement Update = false
+is_replacement (Replacement country) = true
 
 -- the larger of wanted day and floor
 abbrev pub noticed : ℕ → Notice → Line → ℕ
@@ -58,7 +64,7 @@ is_increase before n l = increases before l.key (wanted n l) l.offer
 -- The effective day of a line: a replacement's lines, the lines of a notice out of sequence, and increases wait for the floor.
 unfoldable pub effective : ℕ → Known → Notice → Line → ℕ
 effective period before n l =
-    cond (eqb n.kind replacement || (out_of_sequence before n || is_increase before n l)) (noticed period n l) (wanted n l)
+    cond (is_replacement n.kind || (out_of_sequence before n || is_increase before n l)) (noticed period n l) (wanted n l)
 
 -- The line of a code, if a notice lists it.
 pub data Listing : Type 0 where
@@ -69,9 +75,9 @@ unfoldable pub line_for : ℕ → List Line → Listing
 line_for k [] = unlisted
 line_for k (l ∷ ls) = cond (eqb l.key k) (listed l) (line_for k ls)
 
-abbrev pub same_country : Country → Country → Bool
-same_country (Code a) (Code b) = eqb a b
-same_country (Code a) None = false
+abbrev pub same_country : Option ℕ → Option ℕ → Bool
+same_country (Some a) (Some b) = eqb a b
+same_country (Some a) None = false
 same_country None c = false
 
 -- A code lies in the country of one of the lines.
@@ -79,17 +85,20 @@ unfoldable pub named_by : List Line → ℕ → Bool
 named_by [] k = false
 named_by (l ∷ ls) k = same_country (country_of_key l.key) (country_of_key k) || named_by ls k
 
-abbrev pub in_country : ℕ → Country → Bool
-in_country c (Code d) = eqb d c
+abbrev pub in_country : ℕ → Option ℕ → Bool
+in_country c (Some d) = eqb d c
 in_country c None = false
 
 -- What a notice closes of the codes that it does not list: full every code, partial those of the countries of its lines, a
 -- replacement those of its country, an update none.
+abbrev pub closes_as : Kind → List Line → ℕ → Bool
+closes_as Full ls k = true
+closes_as Partial ls k = named_by ls k
+closes_as Update ls k = false
+closes_as (Replacement c) ls k = in_country c (country_of_key k)
+
 unfoldable pub closes : Notice → ℕ → Bool
-closes n k =
-    cond (eqb n.kind full) true
-    (cond (eqb n.kind partial) (named_by n.lines k)
-    (cond (eqb n.kind replacement) (in_country n.country (country_of_key k)) false))
+closes n k = closes_as n.kind n.lines k
 
 -- The day on which it closes them: the floor; for a replacement, whose lines agree in their last field, the larger of the
 -- wanted day and the floor.
@@ -98,7 +107,7 @@ first_noticed period n [] = floor_of period n
 first_noticed period n (l ∷ ls) = noticed period n l
 
 unfoldable pub closing : ℕ → Notice → ℕ
-closing period n = cond (eqb n.kind replacement) (first_noticed period n n.lines) (floor_of period n)
+closing period n = cond (is_replacement n.kind) (first_noticed period n n.lines) (floor_of period n)
 
 -- What a notice does to a code: from a day on it has an offer, or nothing.
 pub data Change : Type 0 where
@@ -139,8 +148,8 @@ standing =
       latest = 10;
     }
 
-sent : ℕ → List Line → Notice
-sent kind ls = record { kind = kind; received = 100; country = 0; lines = ls }
+sent : Kind → List Line → Notice
+sent kind ls = record { kind = kind; received = 100; lines = ls }
 
 line : List ℕ → Offer → ℕ → Line
 line ds offer day = line_of (key ds) offer day
@@ -148,7 +157,7 @@ line ds offer day = line_of (key ds) offer day
 -- a longer code is compared with the shorter code that prices it; equal rates, and blocked or missing offers, are no increase;
 -- deletes and blocks are
 increase :
-    map (is_increase standing (sent update []))
+    map (is_increase standing (sent Update []))
     (line (7 ∷ 9 ∷ 0 ∷ 3 ∷ []) (Open (rate 6000001) 1 1) 0
     ∷ line (7 ∷ 9 ∷ 0 ∷ 3 ∷ []) (Open (rate 6000000) 60 60) 0
     ∷ line (4 ∷ 4 ∷ 2 ∷ []) (Open (rate 6000001) 1 1) 0
@@ -162,7 +171,7 @@ increase = refl
 
 -- wanted days, and effective days: an increase waits for the floor, day 107, unless it is listed later; another line does not
 days :
-    map (effective 7 standing (sent update []))
+    map (effective 7 standing (sent Update []))
     (line (9 ∷ 1 ∷ []) (Open (rate 1) 1 1) 0
     ∷ line (9 ∷ 1 ∷ []) (Open (rate 1) 1 1) 121
     ∷ line (9 ∷ 1 ∷ []) (Open (rate 1) 1 1) 91
@@ -174,27 +183,27 @@ unfolding standing sent line effective some_earlier key digits_of_key places_of 
 days = refl
 
 -- out of sequence: a wanted day before the latest effective day, and not on it; then every line waits for the floor
-sequence : some_earlier 100 (sent update []) (line (9 ∷ 1 ∷ []) Blocked 0 ∷ []) ∷ some_earlier 101 (sent update []) (line (9 ∷ 1 ∷ []) Blocked 0 ∷ []) ∷ [] ≡ false ∷ true ∷ []
+sequence : some_earlier 100 (sent Update []) (line (9 ∷ 1 ∷ []) Blocked 0 ∷ []) ∷ some_earlier 101 (sent Update []) (line (9 ∷ 1 ∷ []) Blocked 0 ∷ []) ∷ [] ≡ false ∷ true ∷ []
 unfolding sent line some_earlier
 sequence = refl
 
 -- what the kinds close of 44, where a line lists 442 or 91; and when
 closed :
-    closes (sent full []) (key (4 ∷ 4 ∷ []))
-    ∷ closes (sent partial (line (4 ∷ 4 ∷ 2 ∷ []) Blocked 0 ∷ [])) (key (4 ∷ 4 ∷ []))
-    ∷ closes (sent partial (line (9 ∷ 1 ∷ []) Blocked 0 ∷ [])) (key (4 ∷ 4 ∷ []))
-    ∷ closes (sent update (line (4 ∷ 4 ∷ 2 ∷ []) Blocked 0 ∷ [])) (key (4 ∷ 4 ∷ []))
-    ∷ closes (record { kind = replacement; received = 100; country = 44; lines = [] }) (key (4 ∷ 4 ∷ []))
-    ∷ closes (record { kind = replacement; received = 100; country = 91; lines = [] }) (key (4 ∷ 4 ∷ []))
+    closes (sent Full []) (key (4 ∷ 4 ∷ []))
+    ∷ closes (sent Partial (line (4 ∷ 4 ∷ 2 ∷ []) Blocked 0 ∷ [])) (key (4 ∷ 4 ∷ []))
+    ∷ closes (sent Partial (line (9 ∷ 1 ∷ []) Blocked 0 ∷ [])) (key (4 ∷ 4 ∷ []))
+    ∷ closes (sent Update (line (4 ∷ 4 ∷ 2 ∷ []) Blocked 0 ∷ [])) (key (4 ∷ 4 ∷ []))
+    ∷ closes (sent (Replacement 44) []) (key (4 ∷ 4 ∷ []))
+    ∷ closes (sent (Replacement 91) []) (key (4 ∷ 4 ∷ []))
     ∷ []
     ≡ true ∷ true ∷ false ∷ false ∷ true ∷ false ∷ []
 unfolding sent line closes named_by key country_of_key country digits_of_key
 closed = refl
 
 closing_days :
-    closing 7 (sent partial (line (9 ∷ 1 ∷ []) Blocked 121 ∷ []))
-    ∷ closing 7 (sent replacement (line (9 ∷ 1 ∷ []) Blocked 121 ∷ []))
-    ∷ closing 7 (sent replacement (line (9 ∷ 1 ∷ []) Blocked 0 ∷ []))
+    closing 7 (sent Partial (line (9 ∷ 1 ∷ []) Blocked 121 ∷ []))
+    ∷ closing 7 (sent (Replacement 91) (line (9 ∷ 1 ∷ []) Blocked 121 ∷ []))
+    ∷ closing 7 (sent (Replacement 91) (line (9 ∷ 1 ∷ []) Blocked 0 ∷ []))
     ∷ []
     ≡ 107 ∷ 120 ∷ 107 ∷ []
 unfolding sent line closing

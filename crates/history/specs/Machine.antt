@@ -1,14 +1,16 @@
 -- The plain machine, or history rule (document 01): its state is the notice period and the list of accepted notices.
-use Rattle.std.specs.Prelude.{cond, List, [], ◌∷◌, ℕ, leb, ltb, length}
-use Rattle.refusal.specs.Refusal.{book_too_short, received_earlier, book_full}
+use Rattle.std.specs.Prelude.{cond, List, [], ◌∷◌, ℕ, leb, ltb, length, Result, Ok, Err}
 use Rattle.rate.specs.OfferWord.{word_of}
 use Rattle.rate.specs.declared.Offer.TheVariants.{Closed}
-use Rattle.notice.specs.NoticeRule.{Notice, Reading, notice, unread, read_notice}
+use Rattle.notice.specs.NoticeRule.{Notice, read_notice}
 use Rattle.book_words.specs.Layout.{header_words, held}
 use Rattle.longest_match.specs.Match.{matched}
 use Rattle.longest_match.specs.declared.Answer.{Answer}
 use Rattle.history.specs.Effect.{Known, after_notice}
 use Rattle.history.specs.ChangeDays.{change_days}
+use Rattle.refusal.specs.Steps.{◌>>=◌}
+use Rattle.refusal.specs.declared.Refusal.{Refusal}
+use Rattle.refusal.specs.declared.Refusal.TheVariants.{BookFull, BookTooShort, ReceivedEarlier}
 
 -- What no notice gives: every code closed on every day, latest effective day 0.
 abbrev pub unknown : Known
@@ -33,16 +35,16 @@ words k x d = word_of (k.status x d)
 abbrev pub answer_of : ℕ → List Notice → List ℕ → ℕ → Answer
 answer_of period accepted ds day = matched (λ k. (known period accepted).status k day) ds
 
--- What the machine answers to a notice that reads: 10, 30, else 0.
-unfoldable pub judged : ℕ → List Notice → Notice → ℕ → ℕ
+-- A notice that reads, as the machine judges it: 10, 30, else accepted.
+unfoldable pub judged : ℕ → List Notice → Notice → ℕ → Result Notice Refusal
 judged period accepted n len =
-    cond (ltb n.received (last_received accepted)) received_earlier
-    (cond (leb (length (change_days (words (known period (n ∷ accepted))))) (held len)) 0 book_full)
+    cond (ltb n.received (last_received accepted)) (Err ReceivedEarlier)
+    (cond (leb (length (change_days (words (known period (n ∷ accepted))))) (held len)) (Ok n) (Err BookFull))
 
-abbrev pub readings : ℕ → List Notice → ℕ → Reading → ℕ
-readings period accepted len (notice n) = judged period accepted n len
-readings period accepted len (unread e) = e
-
--- What the machine answers to a notice's bytes and the new book's length: 20, the notice's own refusals, 10, 30, else 0.
-unfoldable pub answers : ℕ → List Notice → List ℕ → ℕ → ℕ
-answers period accepted bytes len = cond (ltb len header_words) book_too_short (readings period accepted len (read_notice bytes))
+-- What the machine answers to a notice's bytes and the new book's length: the notice that it accepts, or 20, the notice's own
+-- refusals, 10, 30.
+unfoldable pub answers : ℕ → List Notice → List ℕ → ℕ → Result Notice Refusal
+answers period accepted bytes len =
+    cond (ltb len header_words) (Err BookTooShort) do
+      n ← read_notice bytes
+      judged period accepted n len

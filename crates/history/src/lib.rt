@@ -2,10 +2,9 @@
 // apply, which both speak of.
 #![tactic(auto)]
 
-// What an apply answers: refusal number, and where it is 0 the new book's entries, last received day and latest effective day.
-#[derive(Clone, Copy)]
+// What an accepted apply answers: the new book's entries, last received day and latest effective day.
+#[derive(Clone, Copy, PartialEq, Eq)]
 pub struct Applied {
-    pub refusal: u64,
     pub entries: u64,
     pub received: u64,
     pub latest: u64,

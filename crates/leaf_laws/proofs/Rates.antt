@@ -6,8 +6,7 @@ use mathlib.Core.Logic.{◌↔◌}
 use Prim.Native.Nat.{ℕ, ◌+◌, ◌-◌, ◌*◌, ◌/◌, ◌^◌, ◌≤◌, ◌<◌}
 use Rattle.rate.specs.declared.Rate.{Rate}
 use Rattle.rate.specs.declared.Offer.{Offer}
-use Rattle.rate.specs.declared.Stored.TheVariants.{Holds}
-use Rattle.rate.specs.declared.Priced.TheVariants.{Open}
+use Rattle.rate.specs.declared.Price.TheVariants.{Open}
 use Rattle.calendar.specs.declared.Day.{Day}
 use Rattle.calendar.specs.declared.Moment.{Moment}
 use Rattle.rate.specs.OfferWord.{word_of, offer_of, in_range}
@@ -18,15 +17,16 @@ use Rattle.rate.proofs.Words as words
 use Rattle.charging.proofs.Charges as charges
 use Rattle.rate.proofs.Prices as prices
 use Rattle.calendar.proofs.Times as times
+use Rattle.std.proofs.Common.{Some}
 
 -- Offers and offer words determine each other.
 
 -- The word of an offer in range reads back.
-pub reads_back : (o : Offer) → in_range o ≡ true → offer_of (word_of o) ≡ Holds o
+pub reads_back : (o : Offer) → in_range o ≡ true → offer_of (word_of o) ≡ Some o
 reads_back = words.reads_back
 
 -- A word that stands for an offer is that offer's word, and the offer is in range.
-pub only_word : (w : ℕ) (o : Offer) → offer_of w ≡ Holds o → (word_of o ≡ w) × (in_range o ≡ true)
+pub only_word : (w : ℕ) (o : Offer) → offer_of w ≡ Some o → (word_of o ≡ w) × (in_range o ≡ true)
 only_word = words.only_word
 
 -- Two offers in range with one word are the same.
@@ -91,7 +91,7 @@ pub nearest_price : (m d : ℕ) → 8 < d →
 nearest_price = prices.nearest
 
 -- An open price is the scaled mantissa, and at most the dearest rate.
-pub open_price : (m d : ℕ) (r : Rate) → price_of m d ≡ Open r → (r.0 ≡ scaled m d) × (r.0 ≤ dearest)
+pub open_price : (m d : ℕ) (r : Rate) → price_of m d ≡ Some (Open r) → (r.0 ≡ scaled m d) × (r.0 ≤ dearest)
 open_price = prices.open_price
 
 -- Days and moments.

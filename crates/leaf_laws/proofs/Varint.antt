@@ -5,8 +5,6 @@ use mathlib.Core.Logic.{◌⊎◌, ◌↔◌}
 use mathlib.Core.List.{List, ◌∷◌, ◌++◌}
 use Prim.Native.Nat.{ℕ, ◌+◌, ◌^◌, ◌≤◌, ◌<◌}
 use lib.ListN.{length, get_or, take, drop}
-use Rattle.refusal.specs.Refusal.{bytes_end, not_shortest}
-use Rattle.varint.specs.declared.Number.TheVariants.{Value, Refused}
 use Rattle.varint.specs.Reading.{from, read_number}
 use Rattle.varint_encoding.specs.Encoding.{encode}
 use Rattle.varint_encoding.specs.Several.{encode_all, encodable_all}
@@ -14,12 +12,16 @@ use Rattle.varint_writing.specs.Writing.{leaves_all}
 use Rattle.varint.proofs.Laws as laws
 use Rattle.varint_encoding.proofs.Laws as encoded
 use Rattle.varint_writing.proofs.Writes as written
+use Rattle.refusal.specs.declared.Refusal.TheVariants.{BytesEnd, NotShortest}
+use Rattle.refusal.specs.Steps.{ok_at}
+use Rattle.refusal.specs.declared.Refusal.{Refusal}
+use Rattle.std.proofs.Common.{Err}
 
 -- Reading and writing are inverse.
 
 -- A number's bytes read as the number, wherever they stand.
 pub reads_back : (pre post : List ℕ) (n : ℕ) → n < 2 ^ 63
-    → read_number (pre ++ encode n ++ post) (length pre) ≡ Value n (length pre + length (encode n))
+    → read_number (pre ++ encode n ++ post) (length pre) ≡ ok_at n (length pre + length (encode n))
 reads_back = encoded.reads_back
 
 -- Each number that write_numbers writes reads as itself, at the place after those before it.
@@ -27,11 +29,11 @@ pub written_reads_back : (s : List ℕ) (at : ℕ) (ms : List ℕ) (n : ℕ) (ns
     → encodable_all (ms ++ (n ∷ ns)) ≡ true
     → at + length (encode_all (ms ++ (n ∷ ns))) ≤ length s
     → read_number (leaves_all s at (ms ++ (n ∷ ns))) (at + length (encode_all ms))
-    ≡ Value n (at + length (encode_all ms) + length (encode n))
+    ≡ ok_at n (at + length (encode_all ms) + length (encode n))
 written_reads_back = written.written_reads_back
 
 -- A number that is read stands there in its one encoding.
-pub only_encoding : (s : List ℕ) (at n end : ℕ) → ((i : ℕ) → get_or s i 0 < 256) → read_number s at ≡ Value n end
+pub only_encoding : (s : List ℕ) (at n end : ℕ) → ((i : ℕ) → get_or s i 0 < 256) → read_number s at ≡ ok_at n end
     → (s ≡ take at s ++ encode n ++ drop end s) × (end ≡ at + length (encode n))
 only_encoding = encoded.only_encoding
 
@@ -42,11 +44,11 @@ injective = encoded.injective
 -- Bounds.
 
 -- Reading moves on, and stays within the bytes.
-pub spans : (s : List ℕ) (at n end : ℕ) → read_number s at ≡ Value n end → (at < end) × (end ≤ length s)
+pub spans : (s : List ℕ) (at n end : ℕ) → read_number s at ≡ ok_at n end → (at < end) × (end ≤ length s)
 spans = laws.spans
 
 -- A number that is read is below 2 to the power 63.
-pub below : (s : List ℕ) (at n end : ℕ) → read_number s at ≡ Value n end → n < 2 ^ 63
+pub below : (s : List ℕ) (at n end : ℕ) → read_number s at ≡ ok_at n end → n < 2 ^ 63
 below = laws.below
 
 -- An encoding has one to nine bytes.
@@ -60,17 +62,17 @@ bytes = encoded.bytes
 -- Refusals.
 
 -- There are two.
-pub refusals : (s : List ℕ) (at e : ℕ) → read_number s at ≡ Refused e → (e ≡ bytes_end) ⊎ (e ≡ not_shortest)
+pub refusals : (s : List ℕ) (at : ℕ) (e : Refusal) → read_number s at ≡ Err e → (e ≡ BytesEnd) ⊎ (e ≡ NotShortest)
 refusals = laws.refusals
 
 -- Refusal 1, exactly: fewer than nine bytes are left, and each has its top bit set.
 pub bytes_end_law : (s : List ℕ) (at : ℕ)
-    → (read_number s at ≡ Refused bytes_end) ↔ ((length s < at + 9) × ((i : ℕ) → at + i < length s → 128 ≤ get_or s (at + i) 0))
+    → (read_number s at ≡ Err BytesEnd) ↔ ((length s < at + 9) × ((i : ℕ) → at + i < length s → 128 ≤ get_or s (at + i) 0))
 bytes_end_law = laws.bytes_end_law
 
 -- Refusal 2, exactly: the first nine bytes have their top bit set, or the first byte that has not is 0 and not the only one.
 pub not_shortest_law : (s : List ℕ) (at : ℕ)
-    → (read_number s at ≡ Refused not_shortest)
+    → (read_number s at ≡ Err NotShortest)
     ↔ ((j : ℕ)
     × ((i : ℕ) → i < j → 128 ≤ get_or s (at + i) 0)
     × ((j ≡ 9) ⊎ ((0 < j) × (j < 9) × (at + j < length s) × (get_or s (at + j) 0 ≡ 0))))

@@ -3,54 +3,34 @@
 
 ghost use Rattle.std.specs.Prelude.{◌≡◌, ◌≤◌};
 ghost use Rattle.dial_code.specs.Digits.{most_digits};
-ghost use Rattle.country_code.specs.CountryCode.{country_of_key};
-ghost use Rattle.line_code.specs.CodeRule.{is_country, code_field, read_code};
+ghost use Rattle.line_code.specs.CodeRule.{code_field, read_code};
 
-use country_code::Country;
-use dial_code::Keyed;
-use varint::Number;
-
-// Whether a key lies in a country, given by its country code's value.
-pub fn lies_in(key: u64, named: u64) -> bool
-    ensures { result ≡ is_country (country_of_key key) named }
-{
-    match country_code::country_of_key(key) {
-        Country::Code(c) => c == named,
-        Country::None => false,
-    }
-}
+use country_code::country_of_key;
+use refusal::{Read, Refusal};
 
 // A code's value field, against the key of the line before and the country that a replacement names.
-fn code_field(named: u64, before: u64, count: u64, value: u64, next: usize) -> Number
+#[tactic(auto, using(crate::proofs::Codes::code_steps))]
+fn code_field(named: Option<u64>, before: u64, count: u64, value: u64, end: usize) -> Read<u64>
     requires { (1 ≤ count) × (count ≤ most_digits) }
-    ensures { result ≡ code_field named before count value next }
+    ensures { result ≡ code_field named before count value end }
 {
-    match allowed_code::sent_code_key(count, value) {
-        Keyed::Refused(e) => Number::Refused(e),
-        Keyed::Key(key) => {
-            if key <= before {
-                return Number::Refused(refusal::KEYS_NOT_RISING);
-            }
-            if named == 0 {
-                return Number::Value(key, next);
-            }
-            if lies_in(key, named) {
-                return Number::Value(key, next);
-            }
-            Number::Refused(refusal::OUTSIDE_COUNTRY)
-        }
+    let key = allowed_code::sent_code_key(count, value)?;
+    if key <= before {
+        return Err(Refusal::KeysNotRising);
     }
+    if named.is_some() && country_of_key(key) != named {
+        return Err(Refusal::OutsideCountry);
+    }
+    Ok((key, end))
 }
 
-// A line's code, as its key.
-pub fn read_code(named: u64, before: u64, s: &[u8], at: usize) -> Number
+// A line's code, as its key. A replacement names the country that its codes lie in; `before` is the key of the line before, or 0,
+// which is below every key.
+#[tactic(auto, using(varint::proofs::Told::ranged_facts), unfolding(crate::specs::CodeRule::read_code))]
+pub fn read_code(named: Option<u64>, before: u64, s: &[u8], at: usize) -> Read<u64>
     ensures { result ≡ read_code named before s.now at }
 {
-    match varint::read_ranged(s, at, 1, dial_code::MOST_DIGITS) {
-        Number::Refused(e) => Number::Refused(e),
-        Number::Value(count, next) => match varint::read_number(s, next) {
-            Number::Refused(e) => Number::Refused(e),
-            Number::Value(value, end) => code_field(named, before, count, value, end),
-        },
-    }
+    let (count, next) = varint::read_ranged(s, at, 1, dial_code::MOST_DIGITS)?;
+    let (value, end) = varint::read_number(s, next)?;
+    code_field(named, before, count, value, end)
 }

@@ -1,102 +1,90 @@
 // A line's status and rate (document 01, "Notice layout").
 #![tactic(auto)]
 
-ghost use Rattle.std.specs.Prelude.{◌≡◌, ◌≤◌};
-ghost use Rattle.rate.specs.Price.{price_of};
-ghost use Rattle.line_terms.specs.TermsRule.{most_seconds, offered, read_increments, read_rate, read_terms};
+ghost use Rattle.std.specs.Prelude.{◌≡◌};
+ghost use Rattle.varint.specs.Ranged.{read_ranged};
+ghost use Rattle.line_terms.specs.TermsRule.{status_number, status_of, most_seconds, read_increments, read_rate, read_terms};
 
-use rate::{Offer, Priced, Rate};
-use varint::Number;
+use rate::{Offer, Price, Rate};
+use refusal::{Read, Refusal};
 
-// A line's status.
-pub const DELETES: u64 = 0;
-
-pub const BLOCKS: u64 = 1;
-
-pub const HAS_RATE: u64 = 2;
-
-const MOST_SECONDS: u64 = 255;
-
-// What a line's status and rate offer, with the position after them.
-#[derive(Clone, Copy)]
-pub enum Terms {
-    Offered(Offer, usize),
-    Refused(u64),
+// A line's status, and its number.
+#[derive(Clone, Copy, PartialEq, Eq)]
+pub enum Status {
+    Delete = 0,
+    Block = 1,
+    Rate = 2,
 }
 
-// The offer of a rate and its increments: above the dearest open rate it is a block.
-fn offer_of(mantissa: u64, decimals: u64, first: u64, next: u64) -> Offer
-    requires { (first ≤ most_seconds) × (next ≤ most_seconds) }
-    ensures { result ≡ offered (price_of mantissa decimals) first next }
-{
-    match Rate::new(mantissa, decimals) {
-        Priced::Open(rate) => Offer::Open {
-            rate,
-            first: first as u8,
-            next: next as u8,
-        },
-        Priced::Block => Offer::Blocked,
-        // Not reached: mantissa and decimals were read within their ranges.
-        Priced::OutOfRange => Offer::Blocked,
+impl Status {
+    pub fn number(self) -> u64
+        ensures { result ≡ status_number self }
+    {
+        self as u64
     }
 }
 
-// A rate's increments, after its mantissa and decimals.
-fn read_increments(mantissa: u64, decimals: u64, s: &[u8], at: usize) -> Terms
-    ensures { result ≡ read_increments mantissa decimals s.now at }
-{
-    match varint::read_ranged(s, at, 1, MOST_SECONDS) {
-        Number::Refused(e) => Terms::Refused(e),
-        Number::Value(first, after_first) => match varint::read_ranged(
-            s,
-            after_first,
-            1,
-            MOST_SECONDS,
-        ) {
-            Number::Refused(e) => Terms::Refused(e),
-            Number::Value(next, end) => Terms::Offered(
-                offer_of(mantissa, decimals, first, next),
-                end,
-            ),
-        },
+// The status of a number.
+impl TryFrom<u64> for Status {
+    type Error = Refusal;
+
+    ghost try_from_gives = { λ number status. status ≡ status_of number };
+
+    fn try_from(number: u64) -> Result<Self, Refusal> {
+        match number {
+            0 => Ok(Status::Delete),
+            1 => Ok(Status::Block),
+            2 => Ok(Status::Rate),
+            _ => Err(Refusal::UnknownKind),
+        }
     }
 }
 
-// A rate's decimals, mantissa and increments, as the offer that they make.
-fn read_rate(s: &[u8], at: usize) -> Terms
+const MOST_SECONDS: u64 = u8::MAX as u64;
+
+// An increment in seconds.
+#[tactic(auto, using(varint::proofs::Told::ranged_facts))]
+fn read_seconds(s: &[u8], at: usize) -> Read<u8>
+    ensures { result ≡ read_ranged s.now at 1 most_seconds }
+{
+    let (seconds, next) = varint::read_ranged(s, at, 1, MOST_SECONDS)?;
+    Ok((seconds as u8, next))
+}
+
+// A price's increments, and the offer that it makes with them.
+#[tactic(auto, unfolding(crate::specs::TermsRule::read_increments))]
+fn read_increments(price: Price, s: &[u8], at: usize) -> Read<Offer>
+    ensures { result ≡ read_increments price s.now at }
+{
+    let (first, after_first) = read_seconds(s, at)?;
+    let (next, end) = read_seconds(s, after_first)?;
+    match price {
+        Price::Open(rate) => Ok((Offer::Open { rate, first, next }, end)),
+        Price::Block => Ok((Offer::Blocked, end)),
+    }
+}
+
+// A rate's decimals, mantissa and increments, as the offer that they make. The decimals are in range where a price is asked for, so
+// that there is none only where the mantissa is out of range.
+#[tactic(auto, unfolding(crate::specs::TermsRule::read_rate))]
+fn read_rate(s: &[u8], at: usize) -> Read<Offer>
     ensures { result ≡ read_rate s.now at }
 {
-    match varint::read_ranged(s, at, 0, rate::MOST_DECIMALS) {
-        Number::Refused(e) => Terms::Refused(e),
-        Number::Value(decimals, after_decimals) => match varint::read_ranged(
-            s,
-            after_decimals,
-            0,
-            rate::MOST_MANTISSA,
-        ) {
-            Number::Refused(e) => Terms::Refused(e),
-            Number::Value(mantissa, end) => read_increments(mantissa, decimals, s, end),
-        },
-    }
+    let (decimals, after_decimals) = varint::read_ranged(s, at, 0, rate::MOST_DECIMALS)?;
+    let (mantissa, end) = varint::read_field(s, after_decimals)?;
+    let price = Rate::new(mantissa, decimals).ok_or(Refusal::OutOfRange)?;
+    read_increments(price, s, end)
 }
 
 // A line's status, and its rate where it has one.
-pub fn read_terms(s: &[u8], at: usize) -> Terms
+#[tactic(auto, unfolding(crate::specs::TermsRule::read_terms))]
+pub fn read_terms(s: &[u8], at: usize) -> Read<Offer>
     ensures { result ≡ read_terms s.now at }
 {
-    match varint::read_field(s, at) {
-        Number::Refused(e) => Terms::Refused(e),
-        Number::Value(status, next) => {
-            if status == DELETES {
-                return Terms::Offered(Offer::Closed, next);
-            }
-            if status == BLOCKS {
-                return Terms::Offered(Offer::Blocked, next);
-            }
-            if status == HAS_RATE {
-                return read_rate(s, next);
-            }
-            Terms::Refused(refusal::UNKNOWN_KIND)
-        }
+    let (number, next) = varint::read_field(s, at)?;
+    match Status::try_from(number)? {
+        Status::Delete => Ok((Offer::Closed, next)),
+        Status::Block => Ok((Offer::Blocked, next)),
+        Status::Rate => read_rate(s, next),
     }
 }

@@ -2,4 +2,3 @@
 pub mod LineLayoutLaws
 pub mod LineBack
 pub mod Encodable
-pub mod LineSizes

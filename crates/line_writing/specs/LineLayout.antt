@@ -6,7 +6,8 @@ use Rattle.dial_code.specs.Key.{code_of}
 use Rattle.rate.specs.Price.{rate}
 use Rattle.rate.specs.declared.Offer.{Offer}
 use Rattle.rate.specs.declared.Offer.TheVariants.{Closed, Blocked, Open}
-use Rattle.line_terms.specs.TermsRule.{deletes, blocks, has_rate}
+use Rattle.line_terms.specs.TermsRule.{status_number}
+use Rattle.line_terms.specs.declared.Status.TheVariants as status
 use Rattle.notice_line.specs.LineRule.{line_of}
 use Rattle.notice_line.specs.declared.Line.{Line}
 
@@ -16,9 +17,9 @@ sent_decimals = 8
 
 -- What an offer sends: status 0 deletes, 1 blocks, 2 has a rate, with decimals, mantissa and increments.
 unfoldable pub offer_fields : Offer → List ℕ
-offer_fields Closed = deletes ∷ []
-offer_fields Blocked = blocks ∷ []
-offer_fields (Open r first next) = has_rate ∷ sent_decimals ∷ r.0 ∷ first ∷ next ∷ []
+offer_fields Closed = status_number status.Delete ∷ []
+offer_fields Blocked = status_number status.Block ∷ []
+offer_fields (Open r first next) = status_number status.Rate ∷ sent_decimals ∷ r.0 ∷ first ∷ next ∷ []
 
 -- A line's fields: digit count and value of its code, its offer's fields, and its last field.
 unfoldable pub line_fields : Line → List ℕ

@@ -10,11 +10,9 @@ use Rattle.dial_code.proofs.Tests.{and_left_true, and_left_false, and_right_true
 use Rattle.rate.specs.OfferWord.{offer_of, word_of}
 use Rattle.rate.specs.declared.Offer.{Offer}
 use Rattle.rate.specs.declared.Offer.TheVariants.{Closed, Blocked, Open}
-use Rattle.rate.specs.declared.Stored.{Stored}
-use Rattle.rate.specs.declared.Stored.TheVariants.{Holds, Invalid}
 use Rattle.rate.proofs.Words.{only_word}
 use Rattle.notice_line.specs.declared.Line.{Line}
-use Rattle.book.specs.Soundness.{is_held, is_offer_word}
+use Rattle.book.specs.Soundness.{is_offer_word}
 use Rattle.book.specs.Status.{status_from, status_in, held_offer, offer_in}
 use Rattle.longest_match.specs.Match.{is_standing}
 use Rattle.book_words.specs.declared.Entry.{Entry}
@@ -22,6 +20,7 @@ use Rattle.book.proofs.SoundLists.{After, same, next, Allowed, SoundFrom, Sound,
 use Rattle.book.proofs.Statuses.{smaller, begins_later}
 use Rattle.standing.specs.Pass.{is_replaced, stands, offer_at, entry_line, added_by, passed}
 use Rattle.listing.specs.List.{codes_of, code_line, lines_for, standing_lines}
+use Rattle.std.proofs.Common.{Option, Some, None, is_some}
 
 -- An offer word stands where it is not 0.
 stands_word : (w : ℕ) → is_offer_word w ≡ true → is_standing (offer_at w) ≡ not (eqb w 0)
@@ -33,9 +32,9 @@ stands_word w h = go (offer_of w) refl h
     by Blocked q = sym (ap not (ne_eqb w 0 (λ z. omega arith)))
     by (Open r x y) q = sym (ap not (ne_eqb w 0 (λ z. omega arith)))
 
-    go : (r : Stored) → offer_of w ≡ r → is_held r ≡ true → is_standing (held_offer r) ≡ not (eqb w 0)
-    go (Holds o) e f = by o (only_word w o e).0
-    go Invalid e f = absurd (false≢true f)
+    go : (r : Option Offer) → offer_of w ≡ r → is_some r ≡ true → is_standing (held_offer r) ≡ not (eqb w 0)
+    go (Some o) e f = by o (only_word w o e).0
+    go None e f = absurd (false≢true f)
 
 closed_line : (k : ℕ) → code_line k (offer_at 0) ≡ []
 unfolding offer_of

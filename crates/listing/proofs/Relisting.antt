@@ -13,13 +13,12 @@ use Rattle.rate.specs.OfferWord.{offer_of, word_of}
 use Rattle.rate.specs.declared.Offer.{Offer}
 use Rattle.rate.specs.declared.Offer.TheVariants.{Closed, Blocked, Open}
 use Rattle.rate.proofs.Words.{closed_word}
-use Rattle.notice_line.specs.LineRule.{line_of}
-use Rattle.notice_header.specs.HeaderRule.{replacement}
+use Rattle.notice_line.specs.LineRule.{line_of, key_before}
 use Rattle.notice_writing.specs.Layout.{encode_notice}
 use Rattle.notice_line.specs.declared.Line.{Line}
 use Rattle.notice.proofs.LinesLaws.{ValidFrom}
 use Rattle.book_words.specs.Layout.{entry, entries_of}
-use Rattle.book.specs.Answers.{book_refusal}
+use Rattle.book.specs.Answers.{check_book}
 use Rattle.book.specs.Status.{status_from, status_in, held_offer, offer_in}
 use Rattle.longest_match.specs.Match.{is_standing}
 use Rattle.book_words.specs.declared.Entry.{Entry}
@@ -28,7 +27,7 @@ use Rattle.book.proofs.Statuses.{smaller, other_key, begins_later, starts_closed
 use Rattle.book.proofs.Unique.{unique}
 use Rattle.book.proofs.Usable.{usable_sound}
 use Rattle.history.specs.Effect.{Known, Listing, listed, unlisted, line_for, effective, out_of_sequence, is_increase}
-use Rattle.history.specs.Effect.{noticed, wanted, closes, closing}
+use Rattle.history.specs.Effect.{is_replacement, noticed, wanted, closes, closing}
 use Rattle.history.specs.Effect.{listed_change, change_of, changed}
 use Rattle.history.specs.ChangeDays.{change_days}
 use Rattle.history.specs.Machine.{unknown, known, words}
@@ -38,6 +37,7 @@ use Rattle.history.proofs.Books.{is_word, admissible}
 use Rattle.listing.specs.List.{codes_of, lines_for, standing_lines, standing_notice}
 use Rattle.listing.proofs.Validity.{lines_valid}
 use Rattle.listing.proofs.ReadsBack.{list_reads_back}
+use Rattle.std.proofs.Common.{Option, Some, None, Ok}
 
 -- A key that is none of some.
 Missing : ℕ → List ℕ → Type 0
@@ -148,7 +148,7 @@ module _ (es : List Entry) (day : ℕ) where
   on_day : (l : Line) → l.listed ≡ 0 → effective 0 unknown (standing_notice es day) l ≡ day
   unfolding effective standing_notice
   on_day l z =
-      go (eqb (standing_notice es day).kind replacement
+      go (is_replacement (standing_notice es day).kind
       || (out_of_sequence unknown (standing_notice es day) || is_increase unknown (standing_notice es day) l))
     where
       go : (t : Bool) → cond t (noticed 0 (standing_notice es day) l) (wanted (standing_notice es day) l) ≡ day
@@ -198,23 +198,24 @@ lines_stand f (k ∷ ks) = go (is_standing (f k)) refl (lines_stand f ks)
 
 module _ (day : ℕ) where
   -- Valid lines make sound entries.
-  on_sound : (b n o last : ℕ) (ls : List Line) → day ≤ last_day → ValidFrom 0 b last ls → AllStand ls
-      → SoundFrom b n o (entries_on day ls)
+  on_sound : (n o : ℕ) (before : Option Line) (ls : List Line) → day ≤ last_day → ValidFrom None before ls → AllStand ls
+      → SoundFrom (key_before before) n o (entries_on day ls)
   unfolding ValidFrom AllStand SoundFrom entries_on
-  on_sound b n o last [] h v a = tt
-  on_sound b n o last (l ∷ ls) h v a = (
+  on_sound n o before [] h v a = tt
+  on_sound n o before (l ∷ ls) h v a = (
     next v.0.rises (λ z. false≢true (sym (ap is_standing ((closed_word l.offer).0 z)) ∙ a.0)),
     record { code = v.0.allowed; day_most = h; offer_word = is_word l.offer v.0.is_in_range },
-    on_sound l.key (suc day) (word_of l.offer) l.listed ls h v.1 a.1,
+    on_sound (suc day) (word_of l.offer) (Some l) ls h v.1 a.1,
   )
 
   -- Those of larger keys change nothing.
-  on_later : (k n o last w x d : ℕ) (ls : List Line) → ValidFrom 0 k last ls → SoundFrom k n o (entries_on day ls) → x ≡ k
+  on_later : (n o w x d : ℕ) (before : Option Line) (ls : List Line) → ValidFrom None before ls
+      → SoundFrom (key_before before) n o (entries_on day ls) → x ≡ key_before before
       → status_from w (entries_on day ls) x d ≡ w
   unfolding ValidFrom entries_on status_from
-  on_later k n o last w x d [] v s q = refl
-  on_later k n o last w x d (l ∷ ls) v s q =
-      begins_later k n o w (entries_on day (l ∷ ls)) x d s (λ h. smaller (omega (arith, v.0.rises)))
+  on_later n o w x d before [] v s q = refl
+  on_later n o w x d before (l ∷ ls) v s q =
+      begins_later (key_before before) n o w (entries_on day (l ∷ ls)) x d s (λ h. smaller (omega (arith, v.0.rises)))
 
   word_on : (t : Bool) (o : Offer) → cond t (word_of o) 0 ≡ word_of (cond t o Closed)
   unfolding word_of
@@ -222,25 +223,26 @@ module _ (day : ℕ) where
   word_on false o = refl
 
   -- the status that they give
-  on_status : (b n o last x d : ℕ) (ls : List Line) → ValidFrom 0 b last ls → SoundFrom b n o (entries_on day ls)
+  on_status : (n o x d : ℕ) (before : Option Line) (ls : List Line) → ValidFrom None before ls
+      → SoundFrom (key_before before) n o (entries_on day ls)
       → status_from 0 (entries_on day ls) x d ≡ word_of (cond (leb day d) (listed_offer (line_for x ls)) Closed)
   unfolding ValidFrom SoundFrom entries_on line_for status_from word_of
-  on_status b n o last x d [] v s = sym (ap word_of (either (leb day d)))
-  on_status b n o last x d (l ∷ ls) v s =
-      go (eqb l.key x) refl (on_status l.key (suc day) (word_of l.offer) l.listed x d ls v.1 s.2)
+  on_status n o x d before [] v s = sym (ap word_of (either (leb day d)))
+  on_status n o x d before (l ∷ ls) v s =
+      go (eqb l.key x) refl (on_status (suc day) (word_of l.offer) x d (Some l) ls v.1 s.2)
     where
       go : (t : Bool) → eqb l.key x ≡ t
           → status_from 0 (entries_on day ls) x d ≡ word_of (cond (leb day d) (listed_offer (line_for x ls)) Closed)
           → status_from (cond (t && leb day d) (word_of l.offer) 0) (entries_on day ls) x d
           ≡ word_of (cond (leb day d) (listed_offer (cond t (listed l) (line_for x ls))) Closed)
       go true q r =
-          on_later l.key (suc day) (word_of l.offer) l.listed (cond (leb day d) (word_of l.offer) 0) x d ls v.1 s.2
+          on_later (suc day) (word_of l.offer) (cond (leb day d) (word_of l.offer) 0) x d (Some l) ls v.1 s.2
           (sym (eqb-true l.key x q))
           ∙ word_on (leb day d) l.offer
       go false q r = r
 
 -- The change days of a machine that has taken only the standing list of a sound book: its lines, on its day.
-module _ (ws : List ℕ) (day : ℕ) (b : book_refusal ws ≡ 0) (r : day ≤ last_received_day)
+module _ (ws : List ℕ) (day : ℕ) (b : check_book ws ≡ Ok tt) (r : day ≤ last_received_day)
     (some : standing_lines (entries_of ws) day ≡ [] → ⊥) where
   es : List Entry
   es = entries_of ws
@@ -248,7 +250,7 @@ module _ (ws : List ℕ) (day : ℕ) (b : book_refusal ws ≡ 0) (r : day ≤ la
   after : Known
   after = known 0 (standing_notice es day ∷ [])
 
-  valid : ValidFrom 0 0 0 (standing_lines es day)
+  valid : ValidFrom None None (standing_lines es day)
   unfolding es
   valid = lines_valid ws day (usable_sound ws b)
 
@@ -261,7 +263,7 @@ module _ (ws : List ℕ) (day : ℕ) (b : book_refusal ws ≡ 0) (r : day ≤ la
 
   sound_on : Sound (entries_on day (standing_lines es day))
   unfolding es standing_lines
-  sound_on = on_sound day 0 0 0 0 (standing_lines es day) (omega arith) valid (lines_stand (λ k. offer_in es k day) (codes_of es))
+  sound_on = on_sound day 0 0 None (standing_lines es day) (omega arith) valid (lines_stand (λ k. offer_in es k day) (codes_of es))
 
   pub changes_after_law :
       change_days (words (known 0 (standing_notice (entries_of ws) day ∷ [])))
@@ -277,4 +279,4 @@ module _ (ws : List ℕ) (day : ℕ) (b : book_refusal ws ≡ 0) (r : day ≤ la
       ∙ ap word_of (status_after_law es day x d ∙ ap (λ (o : Offer). cond (leb day d) o Closed) (sym (own_offer es day x)))
       ∙ sym
       (starts_closed (entries_on day (standing_lines es day)) x d
-      ∙ on_status day 0 0 0 0 x d (standing_lines es day) valid sound_on))
+      ∙ on_status day 0 0 x d None (standing_lines es day) valid sound_on))

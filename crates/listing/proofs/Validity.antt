@@ -3,7 +3,6 @@
 use mathlib.Core.Path.{◌≡◌, refl, sym, ◌∙◌}
 use mathlib.Core.Bool.{Bool, true, false, not, false≢true}
 use mathlib.Core.List.{List, [], ◌∷◌, ◌++◌}
-use mathlib.Core.Logic.{inl}
 use Prim.Native.Nat.{ℕ, suc, ◌≤◌, ◌<◌}
 use native.Mathlib.Omega.{arith}
 use borrow.Author.Tests.{leb-true, eqb-false, not-true, leb-false}
@@ -12,6 +11,8 @@ use lib.ListN.{length}
 use Rattle.dial_code.proofs.Tests.{both, and_left_true, positive}
 use Rattle.allowed_code.proofs.CodeLaws.{no_first_digit}
 use Rattle.calendar.specs.Time.{last_received_day}
+use Rattle.notice_line.specs.LineRule.{key_before}
+use Rattle.notice_line.specs.declared.Line.{Line}
 use Rattle.notice_line.proofs.LineLaws.{ValidLine}
 use Rattle.notice.proofs.LinesLaws.{ValidFrom}
 use Rattle.notice.proofs.NoticeLaws.{Valid}
@@ -25,6 +26,7 @@ use Rattle.standing.proofs.Sizes.{offer_in_range, adds_none, adds_one}
 use Rattle.listing.specs.List.{standing_lines, standing_notice}
 use Rattle.listing.proofs.Passing.{in_one_pass}
 use Rattle.listing.proofs.Turns.{few}
+use Rattle.std.proofs.Common.{Option, Some, None}
 
 -- what an entry that stands shows
 stands_facts : (e : Entry) (es : List Entry) (day : ℕ) → stands e es day ≡ true → (e.day ≤ day) × (is_replaced e es day ≡ false)
@@ -34,16 +36,16 @@ stands_facts e es day h =
     let b = both (not (eqb e.offer 0)) (not (is_replaced e es day)) a.1 in
     (leb-true e.day day a.0, not-true (is_replaced e es day) b.1)
 
-entry_valid : (e : Entry) (b : ℕ) → Allowed e → b < e.key → ValidLine 0 b 0 (entry_line e)
+entry_valid : (e : Entry) (before : Option Line) → Allowed e → key_before before < e.key → ValidLine None before (entry_line e)
 unfolding entry_line
-entry_valid e b a l =
+entry_valid e before a l =
     record {
       allowed = a.code;
       is_in_range = offer_in_range e.offer;
       few = omega arith;
       rises = l;
-      inside = inl refl;
-      agrees = inl refl;
+      inside = λ c q. cc;
+      agrees = λ c b q r. cc;
     }
 
 module _ (day : ℕ) where
@@ -72,26 +74,28 @@ module _ (day : ℕ) where
   ahead_on b e [] s h = tt
   ahead_on b e (f ∷ fs) s h = before_after s.0 (before_on h)
 
-  step : (e : Entry) (es : List Entry) (b : ℕ) → Allowed e → SoundFrom e.key (suc e.day) e.offer es
-      → Before e.key e.day b day → (t : Bool) → stands e es day ≡ t
-      → ((c : ℕ) → Ahead c es → ValidFrom 0 c 0 (passed es day)) → ValidFrom 0 b 0 (added_by e es day ++ passed es day)
+  step : (e : Entry) (es : List Entry) (before : Option Line) → Allowed e → SoundFrom e.key (suc e.day) e.offer es
+      → Before e.key e.day (key_before before) day → (t : Bool) → stands e es day ≡ t
+      → ((last : Option Line) → Ahead (key_before last) es → ValidFrom None last (passed es day))
+      → ValidFrom None before (added_by e es day ++ passed es day)
   unfolding ValidFrom entry_line
-  step e es b l s a true q on =
+  step e es before l s a true q on =
       let f = stands_facts e es day q in
-      rw (adds_one e es day q) (entry_valid e b l (larger a f.0), on e.key (ahead_own e es s f.1))
+      rw (adds_one e es day q) (entry_valid e before l (larger a f.0), on (Some (entry_line e)) (ahead_own e es s f.1))
     where
-      larger : Before e.key e.day b day → e.day ≤ day → b < e.key
+      larger : Before e.key e.day (key_before before) day → e.day ≤ day → key_before before < e.key
       larger (smaller h) d = h
       larger (earlier h m) d = absurd (omega arith)
-  step e es b l s a false q on = rw (adds_none e es day q) (on b (ahead_on b e es s a))
+  step e es before l s a false q on = rw (adds_none e es day q) (on before (ahead_on (key_before before) e es s a))
 
   -- What entries add after a key are valid lines after it.
-  passed_valid : (k n o b : ℕ) (es : List Entry) → SoundFrom k n o es → Ahead b es → ValidFrom 0 b 0 (passed es day)
+  passed_valid : (k n o : ℕ) (before : Option Line) (es : List Entry) → SoundFrom k n o es → Ahead (key_before before) es
+      → ValidFrom None before (passed es day)
   unfolding SoundFrom Ahead ValidFrom passed
-  passed_valid k n o b [] s a = tt
-  passed_valid k n o b (e ∷ es) s a =
-      step e es b s.1 s.2 a (stands e es day) refl
-      (λ c h. passed_valid e.key (suc e.day) e.offer c es s.2 h)
+  passed_valid k n o before [] s a = tt
+  passed_valid k n o before (e ∷ es) s a =
+      step e es before s.1 s.2 a (stands e es day) refl
+      (λ last h. passed_valid e.key (suc e.day) e.offer last es s.2 h)
 
 first_ahead : (es : List Entry) (day : ℕ) → Sound es → Ahead day 0 es
 unfolding SoundFrom Ahead
@@ -101,20 +105,17 @@ first_ahead (e ∷ es) day s =
 
 -- The standing list of a sound book, of a day on which it can be received and on which something stands, is a valid notice.
 module _ (ws : List ℕ) (day : ℕ) (s : sound ws ≡ true) where
-  pub lines_valid : ValidFrom 0 0 0 (standing_lines (entries_of ws) day)
+  pub lines_valid : ValidFrom None None (standing_lines (entries_of ws) day)
   lines_valid =
       let e = entries_sound ws s in
-      rw (in_one_pass (entries_of ws) day e) (passed_valid day 0 0 0 0 (entries_of ws) e (first_ahead (entries_of ws) day e))
+      rw (in_one_pass (entries_of ws) day e) (passed_valid day 0 0 0 None (entries_of ws) e (first_ahead (entries_of ws) day e))
 
   pub list_valid : day ≤ last_received_day → 0 < length (standing_lines (entries_of ws) day) → Valid (standing_notice (entries_of ws) day)
   unfolding standing_notice
   list_valid d n =
       record {
-        kind_least = omega arith;
-        kind_most = omega arith;
         received_most = d;
-        unnamed = λ k. refl;
-        named = λ k. absurd (omega arith);
+        named = λ c q. cc;
         some_lines = n;
         few_lines = (few ws day s).0;
         lines_valid = lines_valid;

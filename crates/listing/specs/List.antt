@@ -1,7 +1,6 @@
 -- The standing list of a day (document 01, "Charging and writing"): a full notice received on that day, with each open or
 -- blocked code, rates with 8 decimals, no listed days.
-use Rattle.std.specs.Prelude.{◌≡◌, refl, cond, List, [], ◌∷◌, ◌++◌, ℕ, ◌+◌, ◌-◌, ◌*◌, eqb, leb, length, drop, replicate}
-use Rattle.refusal.specs.Refusal.{book_too_short, book_not_sound, buffer_too_short, time_out_of_range, no_offer}
+use Rattle.std.specs.Prelude.{◌≡◌, refl, cond, List, [], ◌∷◌, ◌++◌, ℕ, ◌+◌, ◌-◌, ◌*◌, eqb, leb, length, drop, replicate, Result, Ok, Err}
 use Rattle.dial_code.specs.Key.{key}
 use Rattle.allowed_code.specs.Code.{is_code_key}
 use Rattle.calendar.specs.Time.{last_received_day, is_received_day}
@@ -11,16 +10,18 @@ use Rattle.calendar.specs.declared.Day.{Day}
 use Rattle.rate.specs.declared.Offer.{Offer}
 use Rattle.rate.specs.declared.Offer.TheVariants.{Blocked, Open}
 use Rattle.notice_line.specs.LineRule.{line_of}
-use Rattle.notice_header.specs.HeaderRule.{full}
+use Rattle.notice_header.specs.declared.Kind.TheVariants.{Full}
 use Rattle.notice.specs.NoticeRule.{Notice}
 use Rattle.notice_writing.specs.Layout.{encode_notice}
 use Rattle.notice_line.specs.declared.Line.{Line}
 use Rattle.book_words.specs.Layout.{header_words, entry_words, most_period, entry, entries_of, book_of}
 use Rattle.book.specs.Status.{offer_in}
 use Rattle.longest_match.specs.Match.{is_standing}
-use Rattle.book.specs.Answers.{book_refusal}
+use Rattle.book.specs.Answers.{check_book}
 use Rattle.book_words.specs.declared.Entry.{Entry}
-use Rattle.listing.specs.declared.Listed.{Listed}
+use Rattle.refusal.specs.Steps.{◌>>=◌}
+use Rattle.refusal.specs.declared.Refusal.{Refusal}
+use Rattle.refusal.specs.declared.Refusal.TheVariants.{BookNotSound, BookTooShort, BufferTooShort, NoOffer, TimeOutOfRange}
 
 -- The keys of a book's codes in the order of its entries, each once: that of an entry whose successor has another or is none.
 unfoldable pub codes_of : List Entry → List ℕ
@@ -45,39 +46,35 @@ standing_lines es day = lines_for (λ k. offer_in es k day) (codes_of es)
 -- The standing list as a notice.
 unfoldable pub standing_notice : List Entry → ℕ → Notice
 unfolding standing_lines
-standing_notice es day = record { kind = full; received = day; country = 0; lines = standing_lines es day }
+standing_notice es day = record { kind = Full; received = day; lines = standing_lines es day }
 
 -- The bytes of a book's standing list.
 unfoldable pub list_of : List ℕ → Day → List ℕ
 unfolding standing_notice encode_notice entries_of
 list_of ws day = encode_notice (standing_notice (entries_of ws) day.0)
 
--- Why a list is refused: 20, 21, 41, 43, 23, in this order; 0 where it is written.
-unfoldable pub list_refusal : List ℕ → Day → ℕ → ℕ
-unfolding book_refusal standing_lines entries_of list_of
-list_refusal ws day room =
-    cond (eqb (book_refusal ws) 0)
-    (cond (is_received_day day)
-    (cond (eqb (length (standing_lines (entries_of ws) day.0)) 0)
-    no_offer
-    (cond (leb (length (list_of ws day)) room) 0 buffer_too_short))
-    time_out_of_range)
-    (book_refusal ws)
+-- Whether there is a list: 20, 21, 41, 43, in this order.
+unfoldable pub check_list : List ℕ → Day → Result (Unit {0}) Refusal
+unfolding check_book standing_lines entries_of
+check_list ws day = do
+  usable ← check_book ws
+  cond (is_received_day day) (cond (eqb (length (standing_lines (entries_of ws) day.0)) 0) (Err NoOffer) (Ok tt)) (Err TimeOutOfRange)
 
-abbrev pub listed : ℕ → ℕ → Listed
-listed e size = record { refusal = e; length = size }
+-- The answer: the list's length, or a refusal, last of all 23.
+unfoldable pub list_answer : List ℕ → Day → ℕ → Result ℕ Refusal
+unfolding check_list list_of
+list_answer ws day room = do
+  there ← check_list ws day
+  cond (leb (length (list_of ws day)) room) (Ok (length (list_of ws day))) (Err BufferTooShort)
 
--- The answer: a refusal, or the list's length.
-unfoldable pub list_answer : List ℕ → Day → ℕ → Listed
-unfolding list_refusal
-list_answer ws day room =
-    cond (eqb (list_refusal ws day room) 0) (listed 0 (length (list_of ws day))) (listed (list_refusal ws day room) 0)
+-- The bytes that an answer leaves: those after the list are untouched, and a refused list changes none.
+abbrev pub bytes_left : Result ℕ Refusal → List ℕ → List ℕ → List ℕ
+bytes_left (Ok size) list out = list ++ drop size out
+bytes_left (Err e) list out = out
 
--- The bytes that a list leaves: those after it are untouched, and a refused list changes none.
 unfoldable pub list_bytes : List ℕ → Day → List ℕ → List ℕ
-unfolding list_refusal
-list_bytes ws day out =
-    cond (eqb (list_refusal ws day (length out)) 0) (list_of ws day ++ drop (length (list_of ws day)) out) out
+unfolding list_answer
+list_bytes ws day out = bytes_left (list_answer ws day (length out)) (list_of ws day) out
 
 -- 1 open from day 100 on, 44 blocked from day 50 on, 7 open from day 10 to 89, 91 open from day 200 on
 some : List ℕ
@@ -121,7 +118,7 @@ answers :
     ∷ list_answer some (on last_received_day) 28
     ∷ list_answer some (on (last_received_day + 1)) 28
     ∷ []
-    ≡ listed 0 18 ∷ listed buffer_too_short 0 ∷ listed no_offer 0 ∷ listed 0 28 ∷ listed time_out_of_range 0 ∷ []
+    ≡ Ok 18 ∷ Err BufferTooShort ∷ Err NoOffer ∷ Ok 28 ∷ Err TimeOutOfRange ∷ []
 unfolding list_answer some book_of key is_code_key offer_of
 answers = refl
 
@@ -132,7 +129,7 @@ refusals :
     ∷ list_answer (book_of header_words 7 0 0 []) (on (last_received_day + 1)) 0
     ∷ list_answer (book_of header_words 7 0 0 []) (on last_received_day) 0
     ∷ []
-    ≡ listed book_too_short 0 ∷ listed book_not_sound 0 ∷ listed time_out_of_range 0 ∷ listed no_offer 0 ∷ []
+    ≡ Err BookTooShort ∷ Err BookNotSound ∷ Err TimeOutOfRange ∷ Err NoOffer ∷ []
 unfolding list_answer book_of offer_of
 refusals = refl
 

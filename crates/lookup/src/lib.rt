@@ -5,30 +5,18 @@ ghost use Rattle.std.specs.Prelude.{◌≡◌};
 ghost use Rattle.lookup.specs.Lookup.{lookup};
 
 use calendar::Day;
-use dial_code::Keyed;
 use longest_match::Answer;
-
-#[derive(Clone, Copy)]
-pub enum Lookup {
-    Found(Answer),
-    Refused(u64),
-}
+use refusal::Refusal;
 
 // What a number costs on a day: 20, 21, 40, 41, else the answer by longest match.
-pub fn look_up(words: &[u64], number: &[u8], day: Day) -> Lookup
+#[tactic(auto, using(crate::proofs::Lookups::lookup_steps))]
+pub fn look_up(words: &[u64], number: &[u8], day: Day) -> Result<Answer, Refusal>
     ensures { result ≡ lookup words.now number.now day }
 {
-    let e = book::book_refusal(words);
-    if e != 0 {
-        return Lookup::Refused(e);
+    book::check_book(words)?;
+    let key = dialled_number::number_key(number)?;
+    if !day.in_range() {
+        return Err(Refusal::TimeOutOfRange);
     }
-    match dialled_number::number_key(number) {
-        Keyed::Refused(e) => Lookup::Refused(e),
-        Keyed::Key(key) => {
-            if !day.in_range() {
-                return Lookup::Refused(refusal::TIME_OUT_OF_RANGE);
-            }
-            Lookup::Found(longest_match::best_offer(words, key, day.0))
-        }
-    }
+    Ok(longest_match::best_offer(words, key, day.0))
 }

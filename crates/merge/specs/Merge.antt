@@ -1,5 +1,5 @@
 -- The merge as a whole, for any words and bytes: what it answers, and the words that it leaves.
-use Rattle.std.specs.Prelude.{◌≡◌, refl, false, List, [], ◌∷◌, ◌++◌, ℕ, ◌+◌, ◌-◌, ◌*◌, ◌/◌, ◌≤◌, min, length, replicate}
+use Rattle.std.specs.Prelude.{◌≡◌, refl, false, List, [], ◌∷◌, ◌++◌, ℕ, ◌+◌, ◌*◌, min, length, replicate}
 use Rattle.varint.specs.Reading.{read_number}
 use Rattle.varint.specs.Ranged.{read_ranged}
 use Rattle.dial_code.specs.Key.{key, keys_end}
@@ -11,19 +11,19 @@ use Rattle.line_code.specs.CodeRule.{code_field, read_code}
 use Rattle.line_terms.specs.TermsRule.{read_terms}
 use Rattle.notice_line.specs.LineRule.{listed_field, read_listed, read_line, line_at}
 use Rattle.notice_line.specs.declared.Line.{Line}
-use Rattle.notice_header.specs.HeaderRule.{most_lines, full, update}
+use Rattle.notice_header.specs.HeaderRule.{most_lines}
+use Rattle.notice_header.specs.declared.Kind.{Kind}
+use Rattle.notice_header.specs.declared.Kind.TheVariants.{Full, Update}
 use Rattle.notice.specs.Lines.{lines_at}
-use Rattle.book_words.specs.Layout.{header_words, entry_words, most_entries, most_words, entry, latest_of, entries_from, words_of, book_of, put_entries}
+use Rattle.book_words.specs.Layout.{header_words, entry_words, most_entries, entry, latest_of, entries_from, words_of, book_of, put_entries}
 use Rattle.book_words.specs.declared.Entry.{Entry}
 use Rattle.book.specs.Soundness.{headed_count}
 use Rattle.longest_match.specs.Search.{best_found}
 use Rattle.effect.specs.Lines.{found_in, changes_by, latest_by}
 use Rattle.effect.specs.declared.Plan.{Plan}
 use Rattle.closing.specs.Closings.{closes_by}
-use Rattle.merge_rule.specs.Passes.{kept_of, status_of, rest_after, merged, line_entries, line_rest, gap_below, unlisted_as, closed_one, goes_on, rest_from, listed_group, placed}
-use Rattle.merge.specs.declared.Kept.{Kept}
+use Rattle.merge_rule.specs.Passes.{rest_after, merged, line_entries, line_rest, gap_below, unlisted_as, closed_one, goes_on, rest_from, listed_group, placed}
 use Rattle.merge.specs.declared.Merged.{Merged}
-use Rattle.merge.specs.declared.Place.{Place}
 
 -- The most entries that a merge can come to: two for each old entry and one for each line.
 abbrev pub most_merged : ℕ
@@ -56,8 +56,8 @@ before : List ℕ
 before = book_of (header_words + 2 * entry_words) 7 90 90 (entry (key (4 ∷ 4 ∷ [])) 90 1 ∷ entry (key (7 ∷ [])) 90 259 ∷ [])
 
 -- a notice received on day 100 with the floor on day 107
-plan : ℕ → Plan
-plan kind = record { kind = kind; country = 0; received = 100; floor = 107; noticed = false; closing = 107 }
+plan : Kind → Plan
+plan kind = record { kind = kind; received = 100; floor = 107; noticed = false; closing = 107 }
 
 -- 44 deleted, as a line of a notice behind a byte; another byte after it
 bytes : List ℕ
@@ -68,12 +68,12 @@ new n = replicate n 0
 
 -- in an update and in a full notice, where 7 closes; no line is to be read, and none reads
 answers :
-    merged_answer before (plan update) [] bytes 1 1
-    ∷ merged_answer before (plan full) [] bytes 1 1
-    ∷ merged_answer before (plan update) [] bytes 1 0
-    ∷ merged_answer before (plan update) [] bytes 0 1
-    ∷ merged_answer before (plan update) [] bytes 1 2
-    ∷ merged_answer [] (plan update) [] bytes 1 1
+    merged_answer before (plan Update) [] bytes 1 1
+    ∷ merged_answer before (plan Full) [] bytes 1 1
+    ∷ merged_answer before (plan Update) [] bytes 1 0
+    ∷ merged_answer before (plan Update) [] bytes 0 1
+    ∷ merged_answer before (plan Update) [] bytes 1 2
+    ∷ merged_answer [] (plan Update) [] bytes 1 1
     ∷ []
     ≡ record { count = 3; latest = 107 }
     ∷ record { count = 4; latest = 107 }
@@ -87,35 +87,11 @@ answers = refl
 
 -- words for three of four entries and two over; none for an entry
 leaves :
-    merged_leaves before (plan full) [] bytes 1 1 (new (header_words + 3 * entry_words + 2))
-    ∷ merged_leaves before (plan full) [] bytes 1 1 (new 1)
+    merged_leaves before (plan Full) [] bytes 1 1 (new (header_words + 3 * entry_words + 2))
+    ∷ merged_leaves before (plan Full) [] bytes 1 1 (new 1)
     ∷ []
     ≡ (new header_words ++ words_of (entry (key (4 ∷ 4 ∷ [])) 90 1 ∷ entry (key (4 ∷ 4 ∷ [])) 107 0 ∷ entry (key (7 ∷ [])) 90 259 ∷ []) ++ new 2)
     ∷ new 1
     ∷ []
 unfolding merged_leaves merged line_entries line_rest gap_below unlisted_as closed_one goes_on rest_from listed_group placed rest_after changes_by lines_at line_at read_line read_code code_field digits is_code read_terms read_listed listed_field read_ranged read_number headed_count entries_from best_found offer_of word_of key book_of closes_by country_of_key before plan bytes put_entries new
 leaves = refl
-
--- A place in the old entries: they are there, and its numbers stay small.
-abbrev pub stands : List ℕ → Place → Type 0
-stands ws from =
-    (from.left * entry_words ≤ min most_words (length ws) - from.at) × (from.count + 2 * from.left ≤ most_merged)
-
--- How many entries have room in so many words.
-abbrev pub room_in : ℕ → ℕ
-room_in len = (len - header_words) / entry_words
-
--- What a pass over old entries comes to: from one place to another it has put some entries, and leaves the rest.
-pub record Passed (ws : List ℕ) (from to : Place) (put rest : List Entry) : Type 0 where
-  pub counted : to.count ≡ from.count + length put
-  pub stands : to.left * entry_words ≤ min most_words (length ws) - to.at
-  pub fewer : to.left ≤ from.left
-  pub left : entries_from ws to.at to.left ≡ rest
-
--- A pass over the entries of a listed code.
-pub record PassedListed (ws : List ℕ) (from : Place) (to : Kept) (change : Entry) (es : List Entry) : Type 0 where
-  pub counted : to.count ≡ from.count + length (kept_of change es)
-  pub stands : to.left * entry_words ≤ min most_words (length ws) - to.at
-  pub fewer : to.left ≤ from.left
-  pub left : entries_from ws to.at to.left ≡ rest_after change.key es
-  pub status : to.status ≡ status_of change 0 es

@@ -2,127 +2,76 @@
 // lines stand the entries of codes that the notice does not list, and at each line those of the line's code.
 #![tactic(auto)]
 
-ghost use Rattle.std.specs.Prelude.{◌≡◌, [], ◌∷◌, ◌+◌, ◌-◌, ◌*◌, ◌≤◌, min, length};
-ghost use Rattle.book_words.specs.Layout.{entry_words, entry_at, entries_from, put_entries};
+ghost use Rattle.std.specs.Prelude.{◌≡◌, [], ◌∷◌, ◌+◌, ◌*◌, ◌≤◌, length};
+ghost use Rattle.book_words.specs.Layout.{put_entries};
 ghost use Rattle.closing.specs.Closings.{closes_by};
-ghost use Rattle.merge_rule.specs.Passes.{goes_on, unlisted_as, gap_below, rest_from, listed_group, kept_of, rest_after, line_entries, line_rest};
-ghost use Rattle.merge.specs.Merge.{most_merged, stands, room_in, Passed, PassedListed, merged_answer, merged_leaves};
+ghost use Rattle.merge_rule.specs.Passes.{goes_on, unlisted_as, gap_below, rest_from, listed_group, kept_of, status_of, rest_after, line_entries, line_rest};
+ghost use Rattle.merge.specs.Merge.{most_merged, merged_answer, merged_leaves};
 
-use book_words::Entry;
+use book_words::{Entries, Entry};
 use effect::Plan;
-use notice_line::LineRead;
 
 // What a merge comes to: how many entries, and the latest effective day.
-#[derive(Clone, Copy)]
+#[derive(Clone, Copy, PartialEq, Eq)]
 pub struct Merged {
     pub count: usize,
     pub latest: u64,
 }
 
-// Where a merge stands: the place of the next old entry, how many are left, and how many entries the new book has so far.
-#[derive(Clone, Copy)]
-struct Place {
-    at: u32,
-    left: usize,
+// Where a merge stands: the old entries that are left, and how many entries the new book has so far.
+#[derive(Drop)]
+struct Place<'a> {
+    rest: Entries<'a>,
     count: usize,
 }
 
-// The same after the entries of a listed code, with the code's status so far.
-#[derive(Clone, Copy)]
-struct Kept {
-    at: u32,
-    left: usize,
-    count: usize,
-    status: u64,
-}
-
-fn lesser(a: u64, b: u64) -> u64
-    ensures { result ≡ min a b }
-{
-    if a < b { a } else { b }
-}
-
-// How many entries have room in so many words.
-fn room_in(len: usize) -> usize
-    ensures { result ≡ room_in len }
-{
-    if len < book_words::HEADER_WORDS {
-        return 0;
-    }
-    (len - book_words::HEADER_WORDS) / book_words::ENTRY_WORDS
-}
-
-// Puts an entry into the new book after so many, where there is room for it.
-fn put(new: &mut [u64], room: usize, count: usize, e: Entry)
-    requires { room ≡ room_in (length new.old) }
+// Puts an entry into the new book after so many, where there are words for all of it.
+#[tactic(auto, using(book_words::proofs::Places::one_stored), unfolding(book_words::specs::Layout::put_entries, book_words::specs::Layout::put_entry))]
+fn put(new: &mut [u64], count: usize, e: Entry)
+    requires { count ≤ most_merged }
     ensures { new.new ≡ put_entries new.old count (e ∷ []) }
 {
-    if count < room {
-        let at = book_words::HEADER_WORDS + count * book_words::ENTRY_WORDS;
+    let at = book_words::HEADER_WORDS + count * book_words::ENTRY_WORDS;
+    if at + book_words::ENTRY_WORDS <= new.len() {
+        // `copy_from_slice` from an array of the three is slower: it asks whether the two overlap.
         new[at] = e.key;
         new[at + book_words::DAY_WORD] = e.day;
         new[at + book_words::OFFER_WORD] = e.offer;
     }
 }
 
-// The entry at a place of the old book, all of whose words are there.
-fn old_entry(old: &[u64], at: u32) -> Entry
-    requires { at + entry_words ≤ length old.now }
-    ensures { result ≡ entry_at old.now at }
-{
-    let from = at as usize;
-    Entry {
-        key: old[from],
-        day: old[from + book_words::DAY_WORD],
-        offer: old[from + book_words::OFFER_WORD],
-    }
-}
-
 // Whether the entry after one is of the same code and before a day.
-fn goes_on(old: &[u64], at: u32, left: usize, e: Entry, day: u64) -> bool
-    requires { left * entry_words ≤ length old.now - at }
-    ensures { result ≡ goes_on day e (entries_from old.now at left) }
+#[tactic(auto, unfolding(merge_rule::specs::Passes::goes_on))]
+fn goes_on(rest: &Entries, e: Entry, day: u64) -> bool
+    ensures { result ≡ goes_on day e rest.now }
 {
-    if left == 0 {
-        return false;
-    }
-    let f = old_entry(old, at);
-    if e.key != f.key {
-        return false;
-    }
-    f.day < day
+    rest.peek().is_some_and(|f| e.key == f.key && f.day < day)
 }
 
-// Puts what stays of an entry whose code the notice does not list; `at` and `left` are the place and number of the entries after
-// it. Answers how many entries the new book then has.
+// Puts what stays of an entry whose code the notice does not list, before the entries after it. Answers how many entries the new
+// book then has.
+#[tactic(auto, unfolding(merge_rule::specs::Passes::unlisted_as, merge_rule::specs::Passes::closed_one, book_words::specs::Layout::put_entries))]
 fn put_unlisted(
-    old: &[u64],
-    at: u32,
-    left: usize,
     e: Entry,
+    rest: &Entries,
     closed: bool,
     day: u64,
     new: &mut [u64],
-    room: usize,
     count: usize,
 ) -> usize
-    requires { (room ≡ room_in (length new.old)) × (count + 2 ≤ most_merged) × (left * entry_words ≤ length old.now - at) }
-    ensures value { result ≡ count + length (unlisted_as closed day e (entries_from old.now at left)) }
-    ensures after { new.new ≡ put_entries new.old count (unlisted_as closed day e
-        (entries_from old.now at left)) }
+    requires { count + 2 ≤ most_merged }
+    ensures value { result ≡ count + length (unlisted_as closed day e rest.now) }
+    ensures after { new.new ≡ put_entries new.old count (unlisted_as closed day e rest.now) }
 {
     if !closed {
-        put(new, room, count, e);
+        put(new, count, e);
         return count + 1;
     }
     if day <= e.day {
         return count;
     }
-    put(new, room, count, e);
-    if e.offer == 0 {
-        return count + 1;
-    }
-    if goes_on(old, at, left, e, day) {
+    put(new, count, e);
+    if e.offer == 0 || goes_on(rest, e, day) {
         return count + 1;
     }
     let end = Entry {
@@ -130,129 +79,106 @@ fn put_unlisted(
         day,
         offer: 0,
     };
-    put(new, room, count + 1, end);
+    put(new, count + 1, end);
     count + 2
 }
 
 // Passes the entries of keys below one, none of which the notice lists. Whether they are closed is worked out once for codes that
 // follow one another and are closed alike.
-fn pass_unlisted(
-    old: &[u64],
-    from: Place,
+#[tactic(auto, unfolding(merge_rule::specs::Passes::gap_below, merge_rule::specs::Passes::rest_from, book_words::specs::Layout::put_entries), using(book_words::proofs::Places::puts_append, closing::proofs::ClosingLaws::anyway_alike, closing::proofs::ClosingLaws::range_alike, closing::proofs::ClosingLaws::range_closed))]
+fn pass_unlisted<'a>(
+    from: Place<'a>,
     below: u64,
     plan: Plan,
     marks: &[u8; 1000],
     new: &mut [u64],
-    room: usize,
-) -> Place
-    requires { (room ≡ room_in (length new.old)) × stands old.now from }
-    ensures passed { Passed old.now from result (gap_below below (closes_by plan marks.now) plan.closing
-        (entries_from old.now from.at from.left)) (rest_from below (entries_from old.now from.at
-        from.left)) }
-    ensures after { new.new ≡ put_entries new.old from.count (gap_below below
-        (closes_by plan marks.now) plan.closing (entries_from old.now from.at from.left)) }
+) -> Place<'a>
+    requires { from.count + 2 * length from.rest ≤ most_merged }
+    ensures rest { result.rest ≡ rest_from below from.entry.rest }
+    ensures count { result.count ≡ from.entry.count + length (gap_below below (closes_by plan marks.now) plan.closing from.entry.rest) }
+    ensures after { new.new ≡ put_entries new.old from.entry.count (gap_below below (closes_by plan marks.now) plan.closing from.entry.rest) }
 {
-    let mut at = from.at;
-    let mut left = from.left;
-    let mut count = from.count;
-    let day = plan.closing;
+    let Place {
+        mut rest,
+        mut count,
+    } = from;
     let mut alike = closing::closed_anyway(plan);
-    while 0 < left {
-        let e = old_entry(old, at);
+    while let Some(e) = rest.peek() {
         if below <= e.key {
-            return Place { at, left, count };
+            return Place { rest, count };
         }
-        let keys = alike.keys;
-        if !country_code::is_within(keys, e.key) {
+        if !alike.keys.contains(&e.key) {
             alike = closing::closed_range(plan, marks, e.key);
         }
-        at += book_words::ENTRY_WORDS as u32;
-        left -= 1;
-        count = put_unlisted(old, at, left, e, alike.closed, day, new, room, count);
+        rest.next();
+        count = put_unlisted(e, &rest, alike.closed, plan.closing, new, count);
     }
-    Place { at, left, count }
+    Place { rest, count }
 }
 
-// Keeps the entries of a listed code that stand before its line's effective day.
-fn keep_listed(old: &[u64], from: Place, change: Entry, new: &mut [u64], room: usize) -> Kept
-    requires { (room ≡ room_in (length new.old)) × stands old.now from }
-    ensures passed_listed { PassedListed old.now from result change (entries_from old.now from.at from.left) }
-    ensures after { new.new ≡ put_entries new.old from.count (kept_of change
-        (entries_from old.now from.at from.left)) }
+// Keeps the entries of a listed code that stand before its line's effective day. Answers the code's status after them as well.
+#[tactic(auto, unfolding(merge_rule::specs::Passes::kept_of, merge_rule::specs::Passes::status_of, merge_rule::specs::Passes::rest_after, book_words::specs::Layout::put_entries))]
+fn keep_listed<'a>(from: Place<'a>, change: Entry, new: &mut [u64]) -> (Place<'a>, u64)
+    requires { from.count + 2 * length from.rest ≤ most_merged }
+    ensures rest { result.0.rest ≡ rest_after change.key from.entry.rest }
+    ensures count { result.0.count ≡ from.entry.count + length (kept_of change from.entry.rest) }
+    ensures status { result.1 ≡ status_of change 0 from.entry.rest }
+    ensures after { new.new ≡ put_entries new.old from.entry.count (kept_of change from.entry.rest) }
 {
-    let mut at = from.at;
-    let mut left = from.left;
-    let mut count = from.count;
-    let mut status: u64 = 0;
-    while 0 < left {
-        let e = old_entry(old, at);
+    let Place {
+        mut rest,
+        mut count,
+    } = from;
+    let mut status = 0;
+    while let Some(e) = rest.peek() {
         if e.key != change.key {
-            return Kept {
-                at,
-                left,
-                count,
-                status,
-            };
+            return (Place { rest, count }, status);
         }
-        at += book_words::ENTRY_WORDS as u32;
-        left -= 1;
+        rest.next();
         if e.day < change.day {
-            put(new, room, count, e);
+            put(new, count, e);
             count += 1;
             status = e.offer;
         }
     }
-    Kept {
-        at,
-        left,
-        count,
-        status,
-    }
+    (Place { rest, count }, status)
 }
 
 // Passes the entries of a listed code, and puts its line's change after those that stay.
-fn pass_listed(old: &[u64], from: Place, change: Entry, new: &mut [u64], room: usize) -> Place
-    requires { (room ≡ room_in (length new.old)) × stands old.now from }
-    ensures passed { Passed old.now from result (listed_group change 0 (entries_from old.now from.at from.left)) (rest_after change.key (entries_from old.now from.at from.left)) }
-    ensures after { new.new ≡ put_entries new.old from.count (listed_group change 0
-        (entries_from old.now from.at from.left)) }
+#[tactic(auto, using(crate::proofs::PassLaws::listed_same, crate::proofs::PassLaws::listed_new, crate::proofs::PassLaws::listed_more, crate::proofs::PassLaws::kept_most, book_words::proofs::Stores::puts_on))]
+fn pass_listed<'a>(from: Place<'a>, change: Entry, new: &mut [u64]) -> Place<'a>
+    requires { from.count + 2 * length from.rest ≤ most_merged }
+    ensures rest { result.rest ≡ rest_after change.key from.entry.rest }
+    ensures count { result.count ≡ from.entry.count + length (listed_group change 0 from.entry.rest) }
+    ensures after { new.new ≡ put_entries new.old from.entry.count (listed_group change 0 from.entry.rest) }
 {
-    let k = keep_listed(old, from, change, new, room);
-    if k.status == change.offer {
-        return Place {
-            at: k.at,
-            left: k.left,
-            count: k.count,
-        };
+    let (Place { rest, count }, status) = keep_listed(from, change, new);
+    if status == change.offer {
+        return Place { rest, count };
     }
-    put(new, room, k.count, change);
+    put(new, count, change);
     Place {
-        at: k.at,
-        left: k.left,
-        count: k.count + 1,
+        rest,
+        count: count + 1,
     }
 }
 
 // Passes the entries up to a line's code, and those of the code itself.
-fn pass_line(
-    old: &[u64],
-    from: Place,
+#[tactic(auto, unfolding(merge_rule::specs::Passes::line_entries, merge_rule::specs::Passes::line_rest), using(book_words::proofs::Stores::puts_on, merge_rule::proofs::MergedLength::gap_length))]
+fn pass_line<'a>(
+    from: Place<'a>,
     change: Entry,
     plan: Plan,
     marks: &[u8; 1000],
     new: &mut [u64],
-    room: usize,
-) -> Place
-    requires { (room ≡ room_in (length new.old)) × stands old.now from }
-    ensures passed { Passed old.now from result (line_entries change (closes_by plan marks.now) plan.closing
-        (entries_from old.now from.at from.left)) (line_rest change (entries_from old.now from.at
-        from.left)) }
-    ensures after { new.new ≡ put_entries new.old from.count (line_entries change
-        (closes_by plan marks.now) plan.closing (entries_from old.now from.at from.left)) }
+) -> Place<'a>
+    requires { from.count + 2 * length from.rest ≤ most_merged }
+    ensures rest { result.rest ≡ line_rest change from.entry.rest }
+    ensures count { result.count ≡ from.entry.count + length (line_entries change (closes_by plan marks.now) plan.closing from.entry.rest) }
+    ensures after { new.new ≡ put_entries new.old from.entry.count (line_entries change (closes_by plan marks.now) plan.closing from.entry.rest) }
 {
-    let key = change.key;
-    let to = pass_unlisted(old, from, key, plan, marks, new, room);
-    pass_listed(old, to, change, new, room)
+    let to = pass_unlisted(from, change.key, plan, marks, new);
+    pass_listed(to, change, new)
 }
 
 // Merges the entries that a book's header counts with the lines of a notice from a place on, at most so many and up to the first
@@ -270,31 +196,22 @@ pub fn merge(
     ensures after { new.new ≡ merged_leaves old.now plan marks.now notice.now start lines
         new.old }
 {
-    let room = room_in(new.len());
     let mut place = Place {
-        at: book_words::HEADER_WORDS as u32,
-        left: book::headed_count(old),
+        rest: Entries::of(old, book::headed_count(old)),
         count: 0,
     };
-    let header = book_words::header_of(old);
-    let mut latest = header.latest;
+    let mut latest = book_words::header_of(old).latest;
     let mut at = start;
-    let mut left = lesser(lines, notice_header::MOST_LINES);
-    while 0 < left {
-        match notice_line::line_at(notice, at) {
-            LineRead::Refused(_) => {
-                left = 0;
-            }
-            LineRead::Read(line, end) => {
-                let change = effect::change_of(old, plan, line);
-                latest = effect::later(latest, change.day);
-                place = pass_line(old, place, change, plan, marks, new, room);
-                at = end;
-                left -= 1;
-            }
-        }
+    for _ in 0..lines.min(notice_header::MOST_LINES) {
+        let Ok((line, end)) = notice_line::line_at(notice, at) else {
+            break;
+        };
+        let change = effect::change_of(old, plan, line);
+        latest = latest.max(change.day);
+        place = pass_line(place, change, plan, marks, new);
+        at = end;
     }
-    let to = pass_unlisted(old, place, dial_code::KEYS_END, plan, marks, new, room);
+    let to = pass_unlisted(place, dial_code::KEYS_END, plan, marks, new);
     Merged {
         count: to.count,
         latest,

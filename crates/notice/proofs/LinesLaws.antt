@@ -6,126 +6,132 @@ use Prim.Native.Nat.{ℕ, zero, suc, ◌+◌, ◌-◌, ◌≤◌, ◌<◌}
 use native.Mathlib.Omega.{arith}
 use lib.ListN.{length, drop, length-drop}
 use lib.Seq.{drop-drop}
-use Rattle.notice_line.specs.LineRule.{read_line, line_from, line_at}
-use Rattle.notice.specs.NoticeRule.{Lines, lines, refused, with_line, with_first, read_lines}
+use Rattle.notice_line.specs.LineRule.{read_line, line_at}
+use Rattle.notice.specs.NoticeRule.{Lines, read_lines}
 use Rattle.notice_line.specs.declared.Line.{Line}
-use Rattle.notice_line.specs.declared.LineRead.{LineRead}
-use Rattle.notice_line.specs.declared.LineRead.TheVariants as line
+use Rattle.varint.proofs.Links.{on_value}
 use Rattle.varint.proofs.Told.{Known}
 use Rattle.notice_line.proofs.LineLaws.{ValidLine, Taken, LineTold, line_told, line_spans, line_alone}
+use Rattle.refusal.specs.Steps.{◌>>=◌, Read, ok_at}
+use Rattle.std.proofs.Common.{Option, Some, Ok, Err}
+use Rattle.refusal.specs.declared.Refusal.{Refusal}
+
+-- A line, and the lines read after it.
+abbrev pub with_first : Line → Lines → Lines
+with_first l lines = lines >>= λ ls. Ok (l ∷ ls)
 
 -- What lines that read tell: the first line, and what follows it.
-pub record More (n named before last : ℕ) (s : List ℕ) (ls : List Line) : Type 0 where
+pub record More (n : ℕ) (named : Option ℕ) (before : Option Line) (s : List ℕ) (ls : List Line) : Type 0 where
   pub first : Line
   pub others : List Line
   pub size : ℕ
   pub whole : ls ≡ first ∷ others
-  pub read : read_line named before last s ≡ line.Read first size
-  pub on : read_lines n named first.key first.listed (drop size s) ≡ lines others
+  pub read : read_line named before s ≡ ok_at first size
+  pub on : read_lines n named (Some first) (drop size s) ≡ Ok others
 
-module _ (n named before last : ℕ) (s : List ℕ) where
-  pub lines_open : read_lines (suc n) named before last s
-      ≡ with_line (read_line named before last s) (λ l size. with_first l (read_lines n named l.key l.listed (drop size s)))
+module _ (n : ℕ) (named : Option ℕ) (before : Option Line) (s : List ℕ) where
+  pub lines_open : read_lines (suc n) named before s
+      ≡ (read_line named before s >>= λ r. with_first r.0 (read_lines n named (Some r.0) (drop r.1 s)))
   unfolding read_lines
   lines_open = refl
 
-  pub lines_more : (ls : List Line) → read_lines (suc n) named before last s ≡ lines ls → More n named before last s ls
-  lines_more ls e = go (read_line named before last s) refl (sym lines_open ∙ e)
+  pub lines_more : (ls : List Line) → read_lines (suc n) named before s ≡ Ok ls → More n named before s ls
+  lines_more ls e = go (read_line named before s) refl (sym lines_open ∙ e)
     where
       next : Line → ℕ → Lines
-      next l size = read_lines n named l.key l.listed (drop size s)
+      next l size = read_lines n named (Some l) (drop size s)
 
-      then : (l : Line) (size : ℕ) → read_line named before last s ≡ line.Read l size → (r : Lines) → next l size ≡ r
-          → with_first l r ≡ lines ls → More n named before last s ls
-      then l size p (lines os) q f = record { first = l; others = os; size = size; whole = cc; read = p; on = q }
-      then l size p (refused x) q f = let z : ◌≡◌ {A = ℕ} 0 1 = cc in absurd (omega arith)
+      then : (l : Line) (size : ℕ) → read_line named before s ≡ ok_at l size → (r : Lines) → next l size ≡ r
+          → with_first l r ≡ Ok ls → More n named before s ls
+      then l size p (Ok os) q f = record { first = l; others = os; size = size; whole = cc; read = p; on = q }
+      then l size p (Err x) q f = cc
 
-      go : (r : LineRead) → read_line named before last s ≡ r → with_line r (λ l size. with_first l (next l size)) ≡ lines ls
-          → More n named before last s ls
-      go (line.Read l size) p f = then l size p (next l size) refl f
-      go (line.Refused x) p f = let z : ◌≡◌ {A = ℕ} 0 1 = cc in absurd (omega arith)
+      go : (r : Read Line) → read_line named before s ≡ r → (r >>= λ x. with_first x.0 (next x.0 x.1)) ≡ Ok ls
+          → More n named before s ls
+      go (Ok (l, size)) p f = then l size p (next l size) refl f
+      go (Err x) p f = cc
 
 -- Where none is asked for there is none, and the bytes are over.
-pub lines_none : (named before last : ℕ) (s : List ℕ) (ls : List Line) → read_lines zero named before last s ≡ lines ls
+pub lines_none : (named : Option ℕ) (before : Option Line) (s : List ℕ) (ls : List Line) → read_lines zero named before s ≡ Ok ls
     → (ls ≡ []) × (s ≡ [])
 unfolding read_lines
-lines_none named before last [] ls e = (cc, refl)
-lines_none named before last (b ∷ s) ls e = let z : ◌≡◌ {A = ℕ} 0 1 = cc in absurd (omega arith)
+lines_none named before [] ls e = (cc, refl)
+lines_none named before (b ∷ s) ls e = cc
 
 -- What a pass over the lines finds at its place: the next line, which stands there by itself, and the others, which are read
 -- from its end on, against it.
-pub record Next (k named : ℕ) (s : List ℕ) (at : ℕ) (ls : List Line) : Type 0 where
+pub record Next (k : ℕ) (named : Option ℕ) (s : List ℕ) (at : ℕ) (ls : List Line) : Type 0 where
   pub first : Line
   pub others : List Line
   pub end : ℕ
   pub whole : ls ≡ first ∷ others
-  pub here : line_at s at ≡ line.Read first end
+  pub here : line_at s at ≡ ok_at first end
   pub moves : at < end
   pub stays : end ≤ length s
-  pub on : read_lines (k - 1) named first.key first.listed (drop end s) ≡ lines others
+  pub on : read_lines (k - 1) named (Some first) (drop end s) ≡ Ok others
 
-pub line_next : (k named before last : ℕ) (s : List ℕ) (at : ℕ) (ls : List Line) → 0 < k
-    → read_lines k named before last (drop at s) ≡ lines ls → Next k named s at ls
+pub line_next : (k : ℕ) (named : Option ℕ) (before : Option Line) (s : List ℕ) (at : ℕ) (ls : List Line) → 0 < k
+    → read_lines k named before (drop at s) ≡ Ok ls → Next k named s at ls
 unfolding line_at
-line_next zero named before last s at ls h e = absurd (omega arith)
-line_next (suc n) named before last s at ls h e =
-    let m = lines_more n named before last (drop at s) ls e in
-    let p = line_spans named before last (drop at s) m.first m.size m.read in
+line_next zero named before s at ls h e = absurd (omega arith)
+line_next (suc n) named before s at ls h e =
+    let m = lines_more n named before (drop at s) ls e in
+    let p = line_spans named before (drop at s) m.first m.size m.read in
     let d : suc n - 1 ≡ n = omega arith in
     record {
       first = m.first;
       others = m.others;
       end = at + m.size;
       whole = m.whole;
-      here = ap (line_from at) (line_alone named before last (drop at s) m.first m.size m.read);
+      here = on_value _ (line_alone named before (drop at s) m.first m.size m.read);
       moves = omega arith;
       stays = omega (arith, length-drop at s);
       on = rw (d, ← drop-drop m.size at s) m.on;
     }
 
 -- Each line is valid after the one before it.
-unfoldable pub ValidFrom : ℕ → ℕ → ℕ → List Line → Type 0
-ValidFrom named before last [] = Unit {0}
-ValidFrom named before last (l ∷ ls) = ValidLine named before last l × ValidFrom named l.key l.listed ls
+unfoldable pub ValidFrom : Option ℕ → Option Line → List Line → Type 0
+ValidFrom named before [] = Unit {0}
+ValidFrom named before (l ∷ ls) = ValidLine named before l × ValidFrom named (Some l) ls
 
-unfoldable pub LinesTold : ℕ → ℕ → ℕ → ℕ → Lines → Type 0
-LinesTold n named before last (lines ls) = (length ls ≡ n) × ValidFrom named before last ls
-LinesTold n named before last (refused e) = Known e
+unfoldable pub LinesTold : ℕ → Option ℕ → Option Line → Lines → Type 0
+LinesTold n named before (Ok ls) = (length ls ≡ n) × ValidFrom named before ls
+LinesTold n named before (Err e) = Known e
 
-line_then : (P : Lines → Type 0) (named before last : ℕ) (s : List ℕ) (r : LineRead) (f : Line → ℕ → Lines)
-    → LineTold named before last s r
-    → ((l : Line) (size : ℕ) → Taken named before last s l size → P (f l size))
-    → ((e : ℕ) → Known e → P (refused e))
-    → P (with_line r f)
+line_then : (P : Lines → Type 0) (named : Option ℕ) (before : Option Line) (s : List ℕ) (r : Read Line) (f : Line × ℕ → Lines)
+    → LineTold named before s r
+    → ((l : Line) (size : ℕ) → Taken named before s l size → P (f (l, size)))
+    → ((e : Refusal) → Known e → P (Err e))
+    → P (r >>= f)
 unfolding LineTold
-line_then P named before last s (line.Read l size) f t h k = h l size t
-line_then P named before last s (line.Refused e) f t h k = k e t
+line_then P named before s (Ok (l, size)) f t h k = h l size t
+line_then P named before s (Err e) f t h k = k e t
 
-first_told : (n named before last : ℕ) (l : Line) → ValidLine named before last l → (r : Lines)
-    → LinesTold n named l.key l.listed r → LinesTold (suc n) named before last (with_first l r)
+first_told : (n : ℕ) (named : Option ℕ) (before : Option Line) (l : Line) → ValidLine named before l → (r : Lines)
+    → LinesTold n named (Some l) r → LinesTold (suc n) named before (with_first l r)
 unfolding LinesTold ValidFrom
-first_told n named before last l v (lines ls) t = (ap suc t.0, (v, t.1))
-first_told n named before last l v (refused e) t = t
+first_told n named before l v (Ok ls) t = (ap suc t.0, (v, t.1))
+first_told n named before l v (Err e) t = t
 
-pub lines_told : (n named before last : ℕ) (s : List ℕ) → LinesTold n named before last (read_lines n named before last s)
+pub lines_told : (n : ℕ) (named : Option ℕ) (before : Option Line) (s : List ℕ) → LinesTold n named before (read_lines n named before s)
 unfolding LinesTold ValidFrom read_lines
-lines_told zero named before last [] = (refl, tt)
-lines_told zero named before last (b ∷ s) = omega arith
-lines_told (suc n) named before last s =
-    line_then (LinesTold (suc n) named before last) named before last s (read_line named before last s) _
-    (line_told named before last s)
+lines_told zero named before [] = (refl, tt)
+lines_told zero named before (b ∷ s) = omega arith
+lines_told (suc n) named before s =
+    line_then (LinesTold (suc n) named before) named before s (read_line named before s) _
+    (line_told named before s)
     (λ l size t.
-    first_told n named before last l t.valid (read_lines n named l.key l.listed (drop size s))
-    (lines_told n named l.key l.listed (drop size s)))
+    first_told n named before l t.valid (read_lines n named (Some l) (drop size s))
+    (lines_told n named (Some l) (drop size s)))
     (λ e k. k)
 
-module _ (n named before last : ℕ) (s : List ℕ) where
+module _ (n : ℕ) (named : Option ℕ) (before : Option Line) (s : List ℕ) where
   -- There are as many lines as were asked for.
-  pub lines_length : (ls : List Line) → read_lines n named before last s ≡ lines ls → length ls ≡ n
+  pub lines_length : (ls : List Line) → read_lines n named before s ≡ Ok ls → length ls ≡ n
   unfolding LinesTold
-  lines_length ls e = (subst (LinesTold n named before last) e (lines_told n named before last s)).0
+  lines_length ls e = (subst (LinesTold n named before) e (lines_told n named before s)).0
 
   -- Each of them is valid after the one before it.
-  pub lines_valid : (ls : List Line) → read_lines n named before last s ≡ lines ls → ValidFrom named before last ls
+  pub lines_valid : (ls : List Line) → read_lines n named before s ≡ Ok ls → ValidFrom named before ls
   unfolding LinesTold
-  lines_valid ls e = (subst (LinesTold n named before last) e (lines_told n named before last s)).1
+  lines_valid ls e = (subst (LinesTold n named before) e (lines_told n named before s)).1

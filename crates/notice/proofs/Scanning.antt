@@ -1,25 +1,18 @@
 -- The pass over the lines of a notice: what is left of it at each turn. Assumes nothing.
-use mathlib.Core.Path.{◌≡◌, refl, ap, sym, ◌∙◌}
-use mathlib.Core.List.{List, [], ◌∷◌}
-use Prim.Native.Nat.{ℕ, zero, suc, ◌+◌, ◌-◌, ◌≤◌, ◌<◌, min}
-use native.Mathlib.Omega.{arith}
-use lib.ListN.{length, drop, take, drop_of_length-le}
-use lib.Seq.{drop-cons, drop-drop}
-use Rattle.refusal.specs.Refusal.{bytes_left}
+use Rattle.std.proofs.Common.{◌≡◌, cond, eqb, ℕ, zero, suc, ◌-◌, ◌≤◌, ◌<◌, min, List, [], ◌∷◌, length, drop, Option, Some, Result, Ok, Err, refl, ap, arith}
+use borrow.Author.Tests.{ne_eqb}
 use Rattle.notice_line.specs.LineRule.{read_line}
-use Rattle.notice.specs.NoticeRule.{Lines, lines, refused, with_line, with_first, read_lines, earliest, scanned}
 use Rattle.notice_line.specs.declared.Line.{Line}
-use Rattle.notice_line.specs.declared.LineRead.{LineRead}
-use Rattle.notice_line.specs.declared.LineRead.TheVariants as line
-use Rattle.notice.specs.declared.Scan.{Scan}
-use Rattle.notice.specs.declared.Scan.TheVariants as scan
-use Rattle.slice_laws.proofs.Slices.{rest}
-use Rattle.notice.proofs.LinesLaws.{lines_open}
+use Rattle.notice.specs.NoticeRule.{Lines, read_lines, earliest, scanned}
+use Rattle.notice.proofs.LinesLaws.{with_first, lines_open}
+use Rattle.refusal.specs.declared.Refusal.{Refusal}
+use Rattle.refusal.specs.declared.Refusal.TheVariants.{BytesLeft}
+use Rattle.refusal.specs.Steps.{◌>>=◌, Read}
 
 -- A model of the pass: what the lines that are left come to, after lines whose earliest listed day is m.
-unfoldable pub scanned_from : ℕ → Lines → Scan
-scanned_from m (lines ls) = scan.Earliest (min m (earliest ls))
-scanned_from m (refused e) = scan.Refused e
+unfoldable pub scanned_from : ℕ → Lines → Result ℕ Refusal
+scanned_from m (Ok ls) = Ok (min m (earliest ls))
+scanned_from m (Err e) = Err e
 
 earliest_most : (ls : List Line) → earliest ls ≤ 65000
 unfolding earliest
@@ -28,48 +21,33 @@ earliest_most (l ∷ ls) = omega (arith, earliest_most ls)
 
 pub starts : (r : Lines) → scanned r ≡ scanned_from 65000 r
 unfolding scanned_from
-starts (lines ls) = ap scan.Earliest (omega (arith, earliest_most ls))
-starts (refused e) = refl
+starts (Ok ls) = ap Ok (omega (arith, earliest_most ls))
+starts (Err e) = refl
 
-one_more : (m : ℕ) (l : Line) (r : Lines) → scanned_from m (with_first l r) ≡ scanned_from (min (l.listed - 1) m) r
+one_more : (m : ℕ) (l : Line) (r : Lines) → scanned_from m (with_first l r) ≡ scanned_from (min m (l.listed - 1)) r
 unfolding scanned_from earliest
-one_more m l (lines ls) = ap scan.Earliest (omega arith)
-one_more m l (refused e) = refl
+one_more m l (Ok ls) = ap Ok (omega arith)
+one_more m l (Err e) = refl
 
--- what the line at the place says of the lines left
-front : (k named before last at : ℕ) (s : List ℕ) (r : LineRead) → 0 < k
-    → read_line named before last (take (length s - at) (drop at s)) ≡ r
-    → read_lines k named before last (drop at s)
-    ≡ with_line r (λ l size. with_first l (read_lines (k - 1) named l.key l.listed (drop size (drop at s))))
-front zero named before last at s r h e = absurd (omega arith)
-front (suc n) named before last at s r h e =
-    let d : suc n - 1 ≡ n = omega arith in
-    let f : read_line named before last (drop at s) ≡ r = ap (read_line named before last) (sym (rest s at)) ∙ e in
-    rw (d, lines_open n named before last (drop at s), f)
-
-module _ {x : Scan} (left named before last m at : ℕ) (s : List ℕ)
-    (i : x ≡ scanned_from m (read_lines left named before last (drop at s))) where
-  -- A line that is read is passed.
-  pub passes : (l : Line) (size : ℕ) → 0 < left
-      → read_line named before last (take (length s - at) (drop at s)) ≡ line.Read l size
-      → x ≡ scanned_from (min (l.listed - 1) m) (read_lines (left - 1) named l.key l.listed (drop (at + size) s))
-  passes l size h e =
-      i
-      ∙ ap (scanned_from m) (front left named before last at s (line.Read l size) h e)
-      ∙ one_more m l (read_lines (left - 1) named l.key l.listed (drop size (drop at s)))
-      ∙ rw (drop-drop size at s)
-
-  -- A line that is refused is what the pass comes to.
-  pub stops : (n : ℕ) → 0 < left → read_line named before last (take (length s - at) (drop at s)) ≡ line.Refused n
-      → x ≡ scan.Refused n
+module _ (k : ℕ) (named : Option ℕ) (before : Option Line) (m : ℕ) (s : List ℕ) where
+  -- While lines are left, the next one is passed, or its refusal is the answer.
+  pub turn : 0 < k
+      → scanned_from m (read_lines k named before s)
+      ≡ (read_line named before s >>= λ r. scanned_from (min m (r.0.listed - 1)) (read_lines (k - 1) named (Some r.0) (drop r.1 s)))
   unfolding scanned_from
-  stops n h e = i ∙ ap (scanned_from m) (front left named before last at s (line.Refused n) h e)
+  turn h = let e : k ≡ suc (k - 1) = omega arith in rw e (rw (lines_open (k - 1) named before s, ← e) (go (read_line named before s)))
+    where
+      go : (r : Read Line)
+          → scanned_from m (r >>= λ r. with_first r.0 (read_lines (k - 1) named (Some r.0) (drop r.1 s)))
+          ≡ (r >>= λ r. scanned_from (min m (r.0.listed - 1)) (read_lines (k - 1) named (Some r.0) (drop r.1 s)))
+      go (Ok (l, size)) = one_more m l (read_lines (k - 1) named (Some l) (drop size s))
+      go (Err e) = refl
 
   -- Past the last line the bytes are over, or there are some left.
-  pub over : left ≡ 0 → length s ≤ at → m ≤ 65000 → x ≡ scan.Earliest m
+  pub over : k ≡ 0 → m ≤ 65000 → scanned_from m (read_lines k named before s) ≡ cond (eqb (length s) 0) (Ok m) (Err BytesLeft)
   unfolding scanned_from read_lines earliest
-  over z h l = i ∙ rw (z, drop_of_length-le s h) (ap scan.Earliest (omega arith))
-
-  pub more : left ≡ 0 → at < length s → x ≡ scan.Refused bytes_left
-  unfolding scanned_from read_lines
-  more z h = i ∙ rw (z, drop-cons s at 0 h)
+  over z l = rw z (go s)
+    where
+      go : (s : List ℕ) → scanned_from m (read_lines zero named before s) ≡ cond (eqb (length s) 0) (Ok m) (Err BytesLeft)
+      go [] = ap Ok (omega arith)
+      go (b ∷ s) = rw (ne_eqb (length (b ∷ s)) 0 (λ e. omega arith))

@@ -1,6 +1,6 @@
 -- The lines of a notice read again one by one, each by itself: at most so many, up to the first that does not read. In a notice that
 -- has been checked they are its lines (proofs/LinesAgain.antt).
-use Rattle.std.specs.Prelude.{◌≡◌, refl, List, [], ◌∷◌, ℕ, zero, suc}
+use Rattle.std.specs.Prelude.{◌≡◌, refl, List, [], ◌∷◌, ℕ, zero, suc, Ok, Err}
 use Rattle.varint.specs.Reading.{read_number}
 use Rattle.varint.specs.Ranged.{read_ranged}
 use Rattle.dial_code.specs.Digits.{digits}
@@ -12,12 +12,11 @@ use Rattle.line_code.specs.CodeRule.{code_field, read_code}
 use Rattle.line_terms.specs.TermsRule.{read_terms}
 use Rattle.notice_line.specs.LineRule.{line_of, listed_field, read_listed, read_line, line_at}
 use Rattle.notice_line.specs.declared.Line.{Line}
-use Rattle.notice_line.specs.declared.LineRead.{LineRead}
-use Rattle.notice_line.specs.declared.LineRead.TheVariants.{Read, Refused}
+use Rattle.refusal.specs.Steps.{Read}
 
-abbrev pub where_read : LineRead → (Line → ℕ → List Line) → List Line
-where_read (Read l end) f = f l end
-where_read (Refused e) f = []
+abbrev pub where_read : Read Line → (Line → ℕ → List Line) → List Line
+where_read (Ok (l, end)) f = f l end
+where_read (Err e) f = []
 
 unfoldable pub lines_at : ℕ → List ℕ → ℕ → List Line
 lines_at zero s at = []

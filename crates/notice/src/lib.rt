@@ -1,90 +1,47 @@
 // A whole price notice (document 01, "Notice layout"): the fields before the lines, the lines, and the end.
 #![tactic(auto)]
 
-ghost use Rattle.std.specs.Prelude.{◌≡◌, ◌≤◌, min, length, drop};
+ghost use Rattle.std.specs.Prelude.{◌≡◌};
 ghost use Rattle.notice.specs.NoticeRule.{read_lines, scanned, check_notice};
 
 use calendar::Day;
-use notice_header::HeaderRead;
-use notice_line::LineRead;
+use notice_header::Header;
+use refusal::Refusal;
 
-// What later passes need of a checked notice: its leading fields, where its first line starts, and the earliest listed day,
-// where a line that lists none counts as listing day 0.
-#[derive(Clone, Copy)]
+// What later passes need of a checked notice: the fields before its lines, and the earliest listed day, where a line that lists
+// none counts as listing day 0.
+#[derive(Clone, Copy, PartialEq, Eq)]
 pub struct Summary {
-    pub kind: u64,
-    pub received: u64,
-    pub country: u64,
-    pub lines: u64,
-    pub start: usize,
+    pub header: Header,
     pub earliest: u64,
 }
 
-#[derive(Clone, Copy)]
-pub enum Checked {
-    Notice(Summary),
-    Refused(u64),
-}
-
-// The earliest listed day of the lines read, or the first refusal.
-#[derive(Clone, Copy)]
-pub enum Scan {
-    Earliest(u64),
-    Refused(u64),
-}
-
-fn least(a: u64, b: u64) -> u64
-    ensures { result ≡ min a b }
+// Reads so many lines and then the end: each line from the place where the one before ended. Gives the earliest listed day.
+#[tactic(auto, using(crate::proofs::Scanning::starts, crate::proofs::Scanning::turn, crate::proofs::Scanning::over, notice_line::proofs::LineLaws::line_spans, slice_laws::proofs::Slices::rest))]
+fn scan_lines(named: Option<u64>, count: u64, lines: &[u8]) -> Result<u64, Refusal>
+    ensures { result ≡ scanned (read_lines count named None lines.now) }
 {
-    if a < b { a } else { b }
-}
-
-// Reads so many lines and then the end: each line from the place where the one before ended.
-fn scan_lines(notice: &[u8], named: u64, count: u64, start: usize) -> Scan
-    requires { start ≤ length notice.now }
-    ensures { result ≡ scanned (read_lines count named 0 0 (drop start notice.now)) }
-{
-    let mut at = start;
-    let mut left = count;
-    let mut before: u64 = 0;
-    let mut last: u64 = 0;
+    let mut rest = lines;
+    let mut before = None;
     let mut earliest = Day::LAST.0;
-    while 0 < left {
-        match notice_line::read_line(named, before, last, &notice[at..]) {
-            LineRead::Refused(e) => {
-                return Scan::Refused(e);
-            }
-            LineRead::Read(line, size) => {
-                before = line.key;
-                last = line.listed;
-                earliest = least(notice_line::listed_day(last), earliest);
-                at += size;
-                left -= 1;
-            }
-        }
+    for _ in 0..count {
+        let (line, size) = notice_line::read_line(named, before, rest)?;
+        rest = &rest[size..];
+        before = Some(line);
+        earliest = earliest.min(line.listed_day());
     }
-    if at < notice.len() {
-        return Scan::Refused(refusal::BYTES_LEFT);
+    if !rest.is_empty() {
+        return Err(Refusal::BytesLeft);
     }
-    Scan::Earliest(earliest)
+    Ok(earliest)
 }
 
 // Checks a whole notice in one pass: what later passes need of it, or the first refusal of 1 to 9.
-pub fn check_notice(notice: &[u8]) -> Checked
+#[tactic(auto, using(notice_header::proofs::HeaderLaws::header_spans, slice_laws::proofs::Slices::rest, crate::proofs::Checking::check_steps))]
+pub fn check_notice(notice: &[u8]) -> Result<Summary, Refusal>
     ensures { result ≡ check_notice notice.now }
 {
-    match notice_header::leading_fields(notice) {
-        HeaderRead::Refused(e) => Checked::Refused(e),
-        HeaderRead::Leads(h) => match scan_lines(notice, h.country, h.lines, h.start) {
-            Scan::Refused(e) => Checked::Refused(e),
-            Scan::Earliest(earliest) => Checked::Notice(Summary {
-                kind: h.kind,
-                received: h.received,
-                country: h.country,
-                lines: h.lines,
-                start: h.start,
-                earliest,
-            }),
-        },
-    }
+    let header = notice_header::leading_fields(notice)?;
+    let earliest = scan_lines(header.kind.country(), header.lines, &notice[header.start..])?;
+    Ok(Summary { header, earliest })
 }

@@ -1,26 +1,26 @@
--- What the fields before the lines tell: each is in its range, only a replacement names a country, and the first line starts
--- within the bytes. Assumes nothing.
-use mathlib.Core.Path.{◌≡◌, refl, subst}
+-- What the fields before the lines tell: each is in its range, a replacement's country is not 0, and the first line starts within
+-- the bytes. Assumes nothing.
+use mathlib.Core.Path.{◌≡◌, subst}
 use mathlib.Core.Bool.{◌&&◌}
 use mathlib.Core.List.{List}
 use Prim.Native.Nat.{ℕ, ◌^◌, ◌≤◌, ◌<◌}
 use native.Mathlib.Omega.{arith}
-use borrow.Author.Tests.{ltb-true, leb-true, eqb-true, eqb-false}
+use borrow.Author.Tests.{ltb-true}
 use lib.Dec.{eqb, leb, ltb}
 use lib.ListN.{length}
 use Rattle.varint.specs.Reading.{read_number}
-use Rattle.varint.specs.declared.Number.{Number}
-use Rattle.varint.specs.declared.Number.TheVariants.{Value, Refused}
 use Rattle.dial_code.specs.Digits.{digits}
-use Rattle.dial_code.proofs.Tests.{both}
 use Rattle.varint.specs.Ranged.{read_ranged}
-use Rattle.notice_header.specs.HeaderRule.{is_country_code, read_country, read_named, read_dated, read_header}
+use Rattle.notice_header.specs.HeaderRule.{is_country_code, read_country, read_kind, read_dated, read_header}
 use Rattle.notice_header.specs.declared.Header.{Header}
-use Rattle.notice_header.specs.declared.HeaderRead.{HeaderRead}
-use Rattle.notice_header.specs.declared.HeaderRead.TheVariants as header
+use Rattle.notice_header.specs.declared.Kind.{Kind}
+use Rattle.notice_header.specs.declared.Kind.TheVariants.{Replacement}
 use Rattle.notice_header.proofs.Countries.{country_some}
 use Rattle.varint.proofs.Told.{Known, Told, then_told, Spans, number_told, Ranged, ranged_told}
 use Rattle.varint.proofs.Links.{either}
+use Rattle.refusal.specs.Steps.{◌>>=◌, Read, ok_at}
+use Rattle.refusal.specs.declared.Refusal.{Refusal}
+use Rattle.std.proofs.Common.{Result, Ok, Err}
 
 -- A country that is read is not 0.
 record Country (s : List ℕ) (at n end : ℕ) : Type 0 where
@@ -31,9 +31,9 @@ record Country (s : List ℕ) (at n end : ℕ) : Type 0 where
 country_told : (s : List ℕ) (at : ℕ) → Told (Country s at) (read_country s at)
 unfolding Told read_country
 country_told s at =
-    then_told (Ranged s at 1 15) F (read_ranged s at 1 15) _ _ (ranged_told s at 1 15)
+    then_told (Ranged s at 1 15) F (read_ranged s at 1 15) _ (ranged_told s at 1 15)
     (λ count mid e p.
-    then_told (Spans s mid) F (read_number s mid) _ _ (number_told s mid)
+    then_told (Spans s mid) F (read_number s mid) _ (number_told s mid)
     (λ v end f q.
     either F (ltb v (10 ^ count)) _ _
     (λ w.
@@ -49,67 +49,64 @@ country_told s at =
     (λ n k. k))
     (λ n k. k)
   where
-    F : Number → Type 0
+    F : Read ℕ → Type 0
     F = Told (Country s at)
 
--- The country that a notice names: 0 exactly where it is no replacement.
-record Named (kind : ℕ) (s : List ℕ) (at n end : ℕ) : Type 0 where
-  moves : at ≤ end
-  stays : end ≤ length s
-  unnamed : (kind ≡ 4 → ⊥) → n ≡ 0
-  named : kind ≡ 4 → 0 < n
+-- What a kind tells: a replacement's country is not 0.
+unfoldable KindTold : List ℕ → ℕ → Read Kind → Type 0
+KindTold s at (Ok (kind, end)) = (at ≤ end) × (end ≤ length s) × ((c : ℕ) → kind ≡ Replacement c → 0 < c)
+KindTold s at (Err e) = Known e
 
-named_told : (kind : ℕ) (s : List ℕ) (at : ℕ) → at ≤ length s → Told (Named kind s at) (read_named kind s at)
-unfolding Told read_named
-named_told kind s at h =
-    either (Told (Named kind s at)) (eqb kind 4) _ _
-    (λ t. weaken (eqb-true kind 4 t) (read_country s at) (country_told s at))
+kind_told : (number : ℕ) (s : List ℕ) (at : ℕ) → at ≤ length s → KindTold s at (read_kind number s at)
+unfolding Told KindTold read_kind
+kind_told number s at h =
+    either F (eqb number 1) _ _ (λ t. (omega arith, h, λ c e. cc))
     (λ t.
-    record {
-      moves = omega arith;
-      stays = h;
-      unnamed = λ n. refl;
-      named = λ (e : kind ≡ 4). absurd (eqb-false kind 4 t e);
-    })
+    either F (eqb number 2) _ _ (λ t. (omega arith, h, λ c e. cc))
+    (λ t.
+    either F (eqb number 3) _ _ (λ t. (omega arith, h, λ c e. cc)) (λ t. replaces (read_country s at) (country_told s at))))
   where
-    weaken : kind ≡ 4 → (r : Number) → Told (Country s at) r → Told (Named kind s at) r
-    weaken e (Value n end) t =
-        record { moves = omega (arith, t.moves); stays = t.stays; unnamed = λ f. absurd (f e); named = λ f. t.some }
-    weaken e (Refused n) t = t
+    F : Read Kind → Type 0
+    F = KindTold s at
+
+    replaces : (r : Read ℕ) → Told (Country s at) r → F (r >>= λ c. ok_at (Replacement c.0) c.1)
+    replaces (Ok (n, end)) t = (omega (arith, t.moves), t.stays, λ c e. let same : n ≡ c = cc in omega (arith, t.some))
+    replaces (Err e) k = k
+
+kind_then : (P : Result Header Refusal → Type 0) (s : List ℕ) (at : ℕ) (r : Read Kind) (f : Kind × ℕ → Result Header Refusal) → KindTold s at r
+    → ((k : Kind) (end : ℕ) → (at ≤ end) × (end ≤ length s) × ((c : ℕ) → k ≡ Replacement c → 0 < c) → P (f (k, end)))
+    → ((e : Refusal) → Known e → P (Err e)) → P (r >>= f)
+unfolding KindTold
+kind_then P s at (Ok (k, end)) f t h g = h k end t
+kind_then P s at (Err e) f t h g = g e t
 
 -- What the fields before the lines tell.
 pub record Leading (s : List ℕ) (h : Header) : Type 0 where
-  pub kind_least : 1 ≤ h.kind
-  pub kind_most : h.kind ≤ 4
   pub received_most : h.received ≤ 60000
   pub lines_least : 1 ≤ h.lines
   pub lines_most : h.lines ≤ 65535
-  pub unnamed : (h.kind ≡ 4 → ⊥) → h.country ≡ 0
-  pub named : h.kind ≡ 4 → 0 < h.country
+  pub named : (c : ℕ) → h.kind ≡ Replacement c → 0 < c
   pub moves : 0 < h.start
   pub stays : h.start ≤ length s
 
-unfoldable pub HeaderTold : List ℕ → HeaderRead → Type 0
-HeaderTold s (header.Leads h) = Leading s h
-HeaderTold s (header.Refused e) = Known e
+unfoldable pub HeaderTold : List ℕ → Result Header Refusal → Type 0
+HeaderTold s (Ok h) = Leading s h
+HeaderTold s (Err e) = Known e
 
-dated_told : (kind : ℕ) (s : List ℕ) (at : ℕ) → 1 ≤ kind → kind ≤ 4 → HeaderTold s (read_dated kind s at)
+dated_told : (number : ℕ) (s : List ℕ) (at : ℕ) → HeaderTold s (read_dated number s at)
 unfolding HeaderTold read_dated
-dated_told kind s at a b =
-    then_told (Ranged s at 0 60000) (HeaderTold s) (read_ranged s at 0 60000) _ _ (ranged_told s at 0 60000)
+dated_told number s at =
+    then_told (Ranged s at 0 60000) (HeaderTold s) (read_ranged s at 0 60000) _ (ranged_told s at 0 60000)
     (λ received mid e p.
-    then_told (Named kind s mid) (HeaderTold s) (read_named kind s mid) _ _ (named_told kind s mid p.stays)
-    (λ named fin f q.
-    then_told (Ranged s fin 1 65535) (HeaderTold s) (read_ranged s fin 1 65535) _ _ (ranged_told s fin 1 65535)
+    kind_then (HeaderTold s) s mid (read_kind number s mid) _ (kind_told number s mid p.stays)
+    (λ kind fin q.
+    then_told (Ranged s fin 1 65535) (HeaderTold s) (read_ranged s fin 1 65535) _ (ranged_told s fin 1 65535)
     (λ lines end g r.
     record {
-      kind_least = a;
-      kind_most = b;
       received_most = p.to;
       lines_least = r.from;
       lines_most = r.to;
-      unnamed = q.unnamed;
-      named = q.named;
+      named = q.2;
       moves = omega (arith, r.moves);
       stays = r.stays;
     })
@@ -120,17 +117,11 @@ dated_told kind s at a b =
 pub header_told : (s : List ℕ) → HeaderTold s (read_header s)
 unfolding HeaderTold read_header
 header_told s =
-    then_told (Spans s 0) (HeaderTold s) (read_number s 0) _ _ (number_told s 0)
-    (λ kind end e p.
-    either (HeaderTold s) (leb 1 kind && leb kind 4) _ _
-    (λ t.
-    let b = both (leb 1 kind) (leb kind 4) t in
-    dated_told kind s end (leb-true _ _ b.0) (leb-true _ _ b.1))
-    (λ t. omega arith))
+    then_told (Spans s 0) (HeaderTold s) (read_number s 0) _ (number_told s 0)
+    (λ number end e p. either (HeaderTold s) (leb 1 number && leb number 4) _ _ (λ t. dated_told number s end) (λ t. omega arith))
     (λ n k. k)
 
--- The fields before the lines take some bytes and stay within them, each is in its range, and the country is 0 exactly where
--- the notice is no replacement.
-pub header_spans : (s : List ℕ) (h : Header) → read_header s ≡ header.Leads h → Leading s h
+-- The fields before the lines take some bytes and stay within them, each is in its range, and a replacement's country is not 0.
+pub header_spans : (s : List ℕ) (h : Header) → read_header s ≡ Ok h → Leading s h
 unfolding HeaderTold
 header_spans s h e = subst (HeaderTold s) e (header_told s)

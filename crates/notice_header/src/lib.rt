@@ -3,135 +3,125 @@
 
 ghost use Rattle.std.specs.Prelude.{◌≡◌, ◌≤◌};
 ghost use Rattle.dial_code.specs.Digits.{most_digits};
-ghost use Rattle.notice_header.specs.HeaderRule.{country_field, read_header};
-ghost use Rattle.notice_header.specs.Leading.{country_by, lines_by, dated_by, header_by};
+ghost use Rattle.notice_header.specs.HeaderRule.{kind_number, kind_country, country_field, read_header};
+ghost use Rattle.notice_header.specs.Leading.{replacement_by, dated_by, header_by};
 
 use calendar::Day;
-use dial_code::Keyed;
-use varint::Number;
+use country_code::country_of_key;
+use refusal::{Read, Refusal};
 use varint_reader::Reader;
 
 pub const MOST_LINES: u64 = 65_535;
 
-// The kinds of a notice.
-pub const FULL: u64 = 1;
+// The kind of a notice: its number is 1 to 4, in this order. A replacement has the value of the country whose codes it replaces.
+#[derive(Clone, Copy, PartialEq, Eq)]
+pub enum Kind {
+    Full,
+    Partial,
+    Update,
+    Replacement(u64),
+}
 
-pub const PARTIAL: u64 = 2;
+impl Kind {
+    pub fn number(self) -> u64
+        ensures { result ≡ kind_number self }
+    {
+        match self {
+            Kind::Full => 1,
+            Kind::Partial => 2,
+            Kind::Update => 3,
+            Kind::Replacement(_) => 4,
+        }
+    }
 
-pub const UPDATE: u64 = 3;
+    // The country whose codes a replacement replaces.
+    pub fn country(self) -> Option<u64>
+        ensures { result ≡ kind_country self }
+    {
+        match self {
+            Kind::Replacement(country) => Some(country),
+            _ => None,
+        }
+    }
+}
 
-pub const REPLACEMENT: u64 = 4;
-
-// The fields before the lines: `country` is the value of a replacement's country, else 0; `start` is where the first line
-// starts.
-#[derive(Clone, Copy)]
+// The fields before the lines; `start` is where the first line starts.
+#[derive(Clone, Copy, PartialEq, Eq)]
 pub struct Header {
-    pub kind: u64,
+    pub kind: Kind,
     pub received: u64,
-    pub country: u64,
     pub lines: u64,
     pub start: usize,
 }
 
-#[derive(Clone, Copy)]
-pub enum HeaderRead {
-    Leads(Header),
-    Refused(u64),
-}
-
 // A replacement country's value field: exactly a country code.
-fn country_field(count: u64, value: u64, end: usize) -> Number
+#[tactic(auto, using(crate::proofs::Countries::country_steps))]
+fn country_field(count: u64, value: u64, end: usize) -> Read<u64>
     requires { (1 ≤ count) × (count ≤ most_digits) }
     ensures { result ≡ country_field count value end }
 {
-    match dial_code::code_key(count, value) {
-        Keyed::Refused(e) => Number::Refused(e),
-        Keyed::Key(key) => {
-            if !allowed_code::is_code_key(key) {
-                return Number::Refused(refusal::CODE_NOT_ALLOWED);
-            }
-            if line_code::lies_in(key, value) {
-                return Number::Value(value, end);
-            }
-            Number::Refused(refusal::CODE_NOT_ALLOWED)
-        }
+    let key = allowed_code::sent_code_key(count, value)?;
+    if country_of_key(key) != Some(value) {
+        return Err(Refusal::CodeNotAllowed);
     }
+    Ok((value, end))
 }
 
-// A replacement's country, by its digit count and its value.
-fn country_by(count: Number, value: Number) -> Number
-    ensures { result ≡ country_by count value }
+// A replacement, by its country's digit count and value.
+#[tactic(auto, using(varint::proofs::Ranges::in_range_facts))]
+fn replacement_by(count: Read<u64>, value: Read<u64>) -> Result<Kind, Refusal>
+    ensures { result ≡ replacement_by count value }
 {
-    match varint::in_range(count, 1, dial_code::MOST_DIGITS) {
-        Number::Refused(e) => Number::Refused(e),
-        Number::Value(digits, _) => match value {
-            Number::Refused(e) => Number::Refused(e),
-            Number::Value(country, end) => country_field(digits, country, end),
-        },
-    }
+    let (count, _) = varint::in_range(count, 1, dial_code::MOST_DIGITS)?;
+    let (value, end) = value?;
+    let (country, _) = country_field(count, value, end)?;
+    Ok(Kind::Replacement(country))
 }
 
-// The header, by its number of lines.
-fn lines_by(kind: u64, received: u64, country: u64, count: Number) -> HeaderRead
-    ensures { result ≡ lines_by kind received country count }
+// The header, by what follows the kind's number: the received day, what the kind comes to, and the number of lines.
+fn dated_by(
+    received: Read<u64>,
+    kind: Result<Kind, Refusal>,
+    lines: Read<u64>,
+) -> Result<Header, Refusal>
+    ensures { result ≡ dated_by received kind lines }
 {
-    match varint::in_range(count, 1, MOST_LINES) {
-        Number::Refused(e) => HeaderRead::Refused(e),
-        Number::Value(lines, start) => HeaderRead::Leads(Header {
-            kind,
-            received,
-            country,
-            lines,
-            start,
-        }),
-    }
-}
-
-// The header, by the numbers after the kind.
-fn dated_by(kind: u64, received: Number, third: Number, fourth: Number, fifth: Number) -> HeaderRead
-    ensures { result ≡ dated_by kind received third fourth fifth }
-{
-    match varint::in_range(received, 0, Day::LAST_RECEIVED.0) {
-        Number::Refused(e) => HeaderRead::Refused(e),
-        Number::Value(day, _) => {
-            if kind == REPLACEMENT {
-                return match country_by(third, fourth) {
-                    Number::Refused(e) => HeaderRead::Refused(e),
-                    Number::Value(country, _) => lines_by(kind, day, country, fifth),
-                };
-            }
-            lines_by(kind, day, 0, third)
-        }
-    }
+    let (received, _) = varint::in_range(received, 0, Day::LAST_RECEIVED.0)?;
+    let kind = kind?;
+    let (lines, start) = varint::in_range(lines, 1, MOST_LINES)?;
+    Ok(Header {
+        kind,
+        received,
+        lines,
+        start,
+    })
 }
 
 // The header, by the five numbers that a notice starts with. Only a replacement has the last two before its lines.
+#[tactic(auto, unfolding(crate::specs::Leading::header_by))]
 fn header_by(
-    kind: Number,
-    received: Number,
-    third: Number,
-    fourth: Number,
-    fifth: Number,
-) -> HeaderRead
+    kind: Read<u64>,
+    received: Read<u64>,
+    third: Read<u64>,
+    fourth: Read<u64>,
+    fifth: Read<u64>,
+) -> Result<Header, Refusal>
     ensures { result ≡ header_by kind received third fourth fifth }
 {
-    match kind {
-        Number::Refused(e) => HeaderRead::Refused(e),
-        Number::Value(known, _) => {
-            if known < FULL {
-                return HeaderRead::Refused(refusal::UNKNOWN_KIND);
-            }
-            if REPLACEMENT < known {
-                return HeaderRead::Refused(refusal::UNKNOWN_KIND);
-            }
-            dated_by(known, received, third, fourth, fifth)
-        }
+    let (number, _) = kind?;
+    match number {
+        1 => dated_by(received, Ok(Kind::Full), third),
+        2 => dated_by(received, Ok(Kind::Partial), third),
+        3 => dated_by(received, Ok(Kind::Update), third),
+        4 => dated_by(received, replacement_by(third, fourth), fifth),
+        _ => Err(Refusal::UnknownKind),
     }
 }
 
 // The fields before the lines, each the number that the reader gives next. A reader that cannot read stays where it is, and what
 // it gives from then on is not looked at.
-pub fn leading_fields(notice: &[u8]) -> HeaderRead
+#[tactic(auto, using(crate::proofs::LeadingLaws::header_read))]
+pub fn leading_fields(notice: &[u8]) -> Result<Header, Refusal>
     ensures { result ≡ read_header notice.now }
 {
     let mut reader = Reader::new(notice);

@@ -1,113 +1,118 @@
 -- What a line that is read tells: where it ends, that it reads the same by itself, and what its fields hold.
 -- Assumes nothing.
 use mathlib.Core.Path.{◌≡◌, ◌∙◌, refl, subst}
-use mathlib.Core.Bool.{true, ◌||◌}
+use mathlib.Core.Bool.{Bool, true, false, cond}
 use mathlib.Core.List.{List}
-use mathlib.Core.Logic.{◌⊎◌, ⊎_elim, inl, inr}
 use Prim.Native.Nat.{ℕ, ◌≤◌, ◌<◌}
 use native.Mathlib.Omega.{arith}
-use borrow.Author.Tests.{leb-true, eqb-true}
-use lib.Dec.{eqb, leb}
-use lib.ListN.{length}
+use borrow.Author.Tests.{le-leb, leb-true, eqb-true}
+use lib.Dec.{leb}
+use lib.ListN.{length, drop_of_length-le}
 use Rattle.varint.specs.Reading.{read_number}
-use Rattle.varint.specs.declared.Number.{Number}
-use Rattle.varint.specs.declared.Number.TheVariants.{Value}
+use Rattle.varint.specs.Ranged.{in_range as ranged, read_ranged}
 use Rattle.country_code.specs.CountryCode.{country_of_key}
 use Rattle.allowed_code.specs.Code.{is_code_key}
-use Rattle.country_code.specs.declared.Country.TheVariants.{Code}
 use Rattle.rate.specs.OfferWord.{in_range}
 use Rattle.rate.specs.declared.Offer.{Offer}
 use Rattle.line_terms.specs.TermsRule.{read_terms}
-use Rattle.line_terms.specs.declared.Terms.{Terms}
-use Rattle.line_terms.specs.declared.Terms.TheVariants as terms
 use Rattle.line_code.specs.CodeRule.{read_code}
-use Rattle.notice_line.specs.LineRule.{listed_field, read_listed, with_terms, read_line}
+use Rattle.notice_line.specs.LineRule.{days_agree, listed_field, read_listed, key_before, read_line, line_at}
 use Rattle.notice_line.specs.declared.Line.{Line}
-use Rattle.notice_line.specs.declared.LineRead.{LineRead}
-use Rattle.notice_line.specs.declared.LineRead.TheVariants as line
-use Rattle.varint.proofs.Links.{on_value, yes_case}
-use Rattle.line_terms.proofs.TermsLaws.{TermsTold, terms_told}
-use Rattle.line_code.proofs.Links.{one_of}
-use Rattle.line_code.proofs.CodeTold.{Coded, code_told}
-use Rattle.notice_line.proofs.Links.{on_offered}
+use Rattle.varint.proofs.Links.{either, on_value, yes_case}
 use Rattle.varint.proofs.Told.{Known, Told, then_told, Spans, number_told}
-use Rattle.varint.proofs.Links.{either}
+use Rattle.line_terms.proofs.TermsLaws.{TermsTold, terms_told}
+use Rattle.line_code.proofs.CodeTold.{Coded, code_told}
+use Rattle.refusal.specs.Steps.{◌>>=◌, Read, ok_at}
+use Rattle.refusal.specs.declared.Refusal.{Refusal}
+use Rattle.refusal.specs.declared.Refusal.TheVariants.{BytesEnd, DaysDiffer, OutOfRange}
+use Rattle.std.proofs.Common.{Option, Some, None, Ok, Err}
+
+-- The rule of a last field by the steps of the code.
+pub listed_steps : (named : Option ℕ) (before : Option Line) (s : List ℕ) (at : ℕ)
+    → read_listed named before s at
+    ≡ (read_ranged s at 0 65001 >>= λ n. cond (days_agree named before n.0) (ok_at n.0 n.1) (Err DaysDiffer))
+unfolding read_listed listed_field read_ranged
+listed_steps named before s at = go (read_number s at)
+  where
+    agreed : ℕ × ℕ → Read ℕ
+    agreed n = cond (days_agree named before n.0) (ok_at n.0 n.1) (Err DaysDiffer)
+
+    go : (r : Read ℕ) → (r >>= λ n. listed_field named before n.0 n.1) ≡ (ranged r 0 65001 >>= agreed)
+    go (Ok (n, end)) = rw (le-leb 0 n (omega arith)) (by_test (leb n 65001))
+      where
+        by_test : (t : Bool) → cond t (agreed (n, end)) (Err OutOfRange) ≡ (cond t (ok_at n end) (Err OutOfRange) >>= agreed)
+        by_test true = refl
+        by_test false = refl
+    go (Err e) = refl
 
 -- What a last field tells: a day in range, and in a replacement that of the line before.
-pub record Listed (named before last : ℕ) (s : List ℕ) (at n end : ℕ) : Type 0 where
+pub record Listed (named : Option ℕ) (before : Option Line) (s : List ℕ) (at n end : ℕ) : Type 0 where
   pub moves : at < end
   pub stays : end ≤ length s
   pub few : n ≤ 65001
-  pub agrees : (named ≡ 0) ⊎ ((before ≡ 0) ⊎ (n ≡ last))
-  pub alone : read_listed 0 0 0 s at ≡ Value n end
+  pub agrees : (c : ℕ) (b : Line) → named ≡ Some c → before ≡ Some b → n ≡ b.listed
+  pub alone : read_listed None None s at ≡ ok_at n end
 
-pub listed_told : (named before last : ℕ) (s : List ℕ) (at : ℕ)
-    → Told (Listed named before last s at) (read_listed named before last s at)
+pub listed_told : (named : Option ℕ) (before : Option Line) (s : List ℕ) (at : ℕ)
+    → Told (Listed named before s at) (read_listed named before s at)
 unfolding Told read_listed listed_field
-listed_told named before last s at =
-    then_told (Spans s at) F (read_number s at) _ _ (number_told s at)
+listed_told named before s at =
+    then_told (Spans s at) F (read_number s at) _ (number_told s at)
     (λ n end e p.
     either F (leb n 65001) _ _
     (λ t.
-    either F (eqb named 0 || (eqb before 0 || eqb n last)) _ _
+    either F (days_agree named before n) _ _
     (λ u.
     record {
       moves = p.moves;
       stays = p.stays;
       few = leb-true _ _ t;
-      agrees = agree n u;
-      alone = on_value _ _ e ∙ yes_case _ _ t;
+      agrees = λ c b v w. eqb-true n b.listed (rw (v, w) at u);
+      alone = on_value _ e ∙ yes_case _ _ t;
     })
     (λ u. omega arith))
     (λ t. omega arith))
     (λ n k. k)
   where
-    F : Number → Type 0
-    F = Told (Listed named before last s at)
-
-    agree : (n : ℕ) → (eqb named 0 || (eqb before 0 || eqb n last)) ≡ true → (named ≡ 0) ⊎ ((before ≡ 0) ⊎ (n ≡ last))
-    agree n u =
-        ⊎_elim
-        (λ z. inl (eqb-true named 0 z))
-        (λ z. inr (⊎_elim (λ y. inl (eqb-true before 0 y)) (λ y. inr (eqb-true n last y)) (one_of (eqb before 0) (eqb n last) z)))
-        (one_of (eqb named 0) (eqb before 0 || eqb n last) u)
+    F : Read ℕ → Type 0
+    F = Told (Listed named before s at)
 
 -- A valid line: an allowed code's key above the line before's, an offer that a book can hold, a last field in range; and in a
--- replacement (`named` is not 0) a code of the named country and the last field of the line before.
-pub record ValidLine (named before last : ℕ) (l : Line) : Type 0 where
+-- replacement a code of the named country and the last field of the line before.
+pub record ValidLine (named : Option ℕ) (before : Option Line) (l : Line) : Type 0 where
   pub allowed : is_code_key l.key ≡ true
   pub is_in_range : in_range l.offer ≡ true
   pub few : l.listed ≤ 65001
-  pub rises : before < l.key
-  pub inside : (named ≡ 0) ⊎ (country_of_key l.key ≡ Code named)
-  pub agrees : (named ≡ 0) ⊎ ((before ≡ 0) ⊎ (l.listed ≡ last))
+  pub rises : key_before before < l.key
+  pub inside : (c : ℕ) → named ≡ Some c → country_of_key l.key ≡ Some c
+  pub agrees : (c : ℕ) (b : Line) → named ≡ Some c → before ≡ Some b → l.listed ≡ b.listed
 
 -- What reading a line tells.
-pub record Taken (named before last : ℕ) (s : List ℕ) (l : Line) (size : ℕ) : Type 0 where
+pub record Taken (named : Option ℕ) (before : Option Line) (s : List ℕ) (l : Line) (size : ℕ) : Type 0 where
   pub moves : 0 < size
   pub stays : size ≤ length s
-  pub valid : ValidLine named before last l
-  pub alone : read_line 0 0 0 s ≡ line.Read l size
+  pub valid : ValidLine named before l
+  pub alone : read_line None None s ≡ ok_at l size
 
-unfoldable pub LineTold : ℕ → ℕ → ℕ → List ℕ → LineRead → Type 0
-LineTold named before last s (line.Read l size) = Taken named before last s l size
-LineTold named before last s (line.Refused e) = Known e
+unfoldable pub LineTold : Option ℕ → Option Line → List ℕ → Read Line → Type 0
+LineTold named before s (Ok (l, size)) = Taken named before s l size
+LineTold named before s (Err e) = Known e
 
-terms_then : (P : LineRead → Type 0) (s : List ℕ) (at : ℕ) (r : Terms) (f : Offer → ℕ → LineRead) → TermsTold s at r
-    → ((o : Offer) (end : ℕ) → r ≡ terms.Offered o end → (at < end) × (end ≤ length s) × (in_range o ≡ true) → P (f o end))
-    → ((e : ℕ) → Known e → P (line.Refused e)) → P (with_terms r f)
+terms_then : (P : Read Line → Type 0) (s : List ℕ) (at : ℕ) (r : Read Offer) (f : Offer × ℕ → Read Line) → TermsTold s at r
+    → ((o : Offer) (end : ℕ) → r ≡ ok_at o end → (at < end) × (end ≤ length s) × (in_range o ≡ true) → P (f (o, end)))
+    → ((e : Refusal) → Known e → P (Err e)) → P (r >>= f)
 unfolding TermsTold
-terms_then P s at (terms.Offered o end) f t h k = h o end refl t
-terms_then P s at (terms.Refused e) f t h k = k e t
+terms_then P s at (Ok (o, end)) f t h k = h o end refl t
+terms_then P s at (Err e) f t h k = k e t
 
-pub line_told : (named before last : ℕ) (s : List ℕ) → LineTold named before last s (read_line named before last s)
+pub line_told : (named : Option ℕ) (before : Option Line) (s : List ℕ) → LineTold named before s (read_line named before s)
 unfolding LineTold read_line
-line_told named before last s =
-    then_told (Coded named before s 0) P (read_code named before s 0) _ _ (code_told named before s 0)
+line_told named before s =
+    then_told (Coded named b s 0) P (read_code named b s 0) _ (code_told named b s 0)
     (λ k mid e p.
     terms_then P s mid (read_terms s mid) _ (terms_told s mid)
     (λ o fin f q.
-    then_told (Listed named before last s fin) P (read_listed named before last s fin) _ _ (listed_told named before last s fin)
+    then_told (Listed named before s fin) P (read_listed named before s fin) _ (listed_told named before s fin)
     (λ n end g r.
     record {
       moves = omega (arith, p.moves, q.0, r.moves);
@@ -120,24 +125,32 @@ line_told named before last s =
         inside = p.inside;
         agrees = r.agrees;
       };
-      alone = on_value _ _ p.alone ∙ on_offered _ f ∙ on_value _ _ r.alone;
+      alone = on_value _ p.alone ∙ on_value _ f ∙ on_value _ r.alone;
     })
     (λ n h. h))
     (λ n h. h))
     (λ n h. h)
   where
-    P : LineRead → Type 0
-    P = LineTold named before last s
+    b : ℕ
+    b = key_before before
 
-module _ (named before last : ℕ) (s : List ℕ) where
-  taken : (l : Line) (size : ℕ) → read_line named before last s ≡ line.Read l size → Taken named before last s l size
+    P : Read Line → Type 0
+    P = LineTold named before s
+
+module _ (named : Option ℕ) (before : Option Line) (s : List ℕ) where
+  taken : (l : Line) (size : ℕ) → read_line named before s ≡ ok_at l size → Taken named before s l size
   unfolding LineTold
-  taken l size e = subst (LineTold named before last s) e (line_told named before last s)
+  taken l size e = subst (LineTold named before s) e (line_told named before s)
 
   -- A line takes some bytes, and stays within them.
-  pub line_spans : (l : Line) (size : ℕ) → read_line named before last s ≡ line.Read l size → (0 < size) × (size ≤ length s)
+  pub line_spans : (l : Line) (size : ℕ) → read_line named before s ≡ ok_at l size → (0 < size) × (size ≤ length s)
   line_spans l size e = let t = taken l size e in (t.moves, t.stays)
 
   -- A line that reads in its notice reads the same by itself.
-  pub line_alone : (l : Line) (size : ℕ) → read_line named before last s ≡ line.Read l size → read_line 0 0 0 s ≡ line.Read l size
+  pub line_alone : (l : Line) (size : ℕ) → read_line named before s ≡ ok_at l size → read_line None None s ≡ ok_at l size
   line_alone l size e = (taken l size e).alone
+
+-- Past the end no line is read.
+pub at_end : (s : List ℕ) (at : ℕ) → length s ≤ at → line_at s at ≡ Err BytesEnd
+unfolding line_at read_line read_code read_ranged read_number
+at_end s at h = rw (drop_of_length-le s h)

@@ -5,89 +5,59 @@ ghost use Rattle.std.specs.Prelude.{◌≡◌};
 ghost use Rattle.notice_line.specs.LineRule.{read_listed, listed_day, read_line, line_at};
 
 use calendar::Day;
-use line_terms::Terms;
 use rate::Offer;
-use varint::Number;
+use refusal::{Read, Refusal};
 
 // A line: its code's key, what it offers from its effective day on (closed for a delete), and its last field as sent: the
-// listed day plus one, or 0 for none.
-#[derive(Clone, Copy)]
+// listed day plus one, or 0 for none. It stays a number, which the next line's is held to and a writer sends as it is.
+#[derive(Clone, Copy, PartialEq, Eq)]
 pub struct Line {
     pub key: u64,
     pub offer: Offer,
     pub listed: u64,
 }
 
-// What stands at a line's place: the line with the position after it, or the first refusal.
-#[derive(Clone, Copy)]
-pub enum LineRead {
-    Read(Line, usize),
-    Refused(u64),
-}
-
-// A line's last field, against that of the line before where the notice is a replacement.
-fn read_listed(named: u64, before: u64, last: u64, s: &[u8], at: usize) -> Number
-    ensures { result ≡ read_listed named before last s.now at }
-{
-    match varint::read_field(s, at) {
-        Number::Refused(e) => Number::Refused(e),
-        Number::Value(listed, next) => {
-            if Day::LAST.0 + 1 < listed {
-                return Number::Refused(refusal::OUT_OF_RANGE);
-            }
-            if named == 0 {
-                return Number::Value(listed, next);
-            }
-            if before == 0 {
-                return Number::Value(listed, next);
-            }
-            if listed == last {
-                return Number::Value(listed, next);
-            }
-            Number::Refused(refusal::DAYS_DIFFER)
-        }
+impl Line {
+    // The listed day, 0 where the line lists none.
+    pub fn listed_day(self) -> u64
+        ensures { result ≡ listed_day self.listed }
+    {
+        self.listed.saturating_sub(1)
     }
 }
 
-// The day that a last field lists, 0 where it lists none.
-pub fn listed_day(listed: u64) -> u64
-    ensures { result ≡ listed_day listed }
+// A line's last field, in a replacement that of the line before.
+#[tactic(auto, using(crate::proofs::LineLaws::listed_steps))]
+fn read_listed(named: Option<u64>, before: Option<Line>, s: &[u8], at: usize) -> Read<u64>
+    ensures { result ≡ read_listed named before s.now at }
 {
-    if listed == 0 { 0 } else { listed - 1 }
+    let (listed, next) = varint::read_ranged(s, at, 0, Day::LAST.0 + 1)?;
+    if named.is_some() && before.is_some_and(|line| line.listed != listed) {
+        return Err(Refusal::DaysDiffer);
+    }
+    Ok((listed, next))
 }
 
-// The line at the front of a part of a notice, with how many bytes it takes. `named` is the country of a replacement, else 0;
-// `before` and `last` are the key and the last field of the line before, `before` 0 where there is none.
-pub fn read_line(named: u64, before: u64, last: u64, s: &[u8]) -> LineRead
-    ensures { result ≡ read_line named before last s.now }
+// The line at the front of a part of a notice, with how many bytes it takes. A replacement names the country of its lines;
+// `before` is the line before.
+#[tactic(auto, unfolding(crate::specs::LineRule::read_line))]
+pub fn read_line(named: Option<u64>, before: Option<Line>, s: &[u8]) -> Read<Line>
+    ensures { result ≡ read_line named before s.now }
 {
-    match line_code::read_code(named, before, s, 0) {
-        Number::Refused(e) => LineRead::Refused(e),
-        Number::Value(key, after_code) => match line_terms::read_terms(s, after_code) {
-            Terms::Refused(e) => LineRead::Refused(e),
-            Terms::Offered(offer, after_terms) => match read_listed(
-                named,
-                before,
-                last,
-                s,
-                after_terms,
-            ) {
-                Number::Refused(e) => LineRead::Refused(e),
-                Number::Value(listed, end) => LineRead::Read(Line { key, offer, listed }, end),
-            },
-        },
-    }
+    let (key, after_code) = line_code::read_code(named, before.map_or(0, |line| line.key), s, 0)?;
+    let (offer, after_terms) = line_terms::read_terms(s, after_code)?;
+    let (listed, end) = read_listed(named, before, s, after_terms)?;
+    Ok((Line { key, offer, listed }, end))
 }
 
 // The line at a place of a checked notice, with the place after it: read by itself, against no country and no line before it.
-pub fn line_at(notice: &[u8], at: usize) -> LineRead
+#[tactic(auto, using(crate::proofs::LineLaws::at_end, crate::proofs::LineLaws::line_spans), unfolding(crate::specs::LineRule::line_at))]
+pub fn line_at(notice: &[u8], at: usize) -> Read<Line>
     ensures { result ≡ line_at notice.now at }
 {
-    if notice.len() <= at {
-        return LineRead::Refused(refusal::BYTES_END);
-    }
-    match read_line(0, 0, 0, &notice[at..]) {
-        LineRead::Refused(e) => LineRead::Refused(e),
-        LineRead::Read(line, size) => LineRead::Read(line, at + size),
-    }
+    let Some(rest) = notice.get(at..) else {
+        return Err(Refusal::BytesEnd);
+    };
+    let (line, size) = read_line(None, None, rest)?;
+    Ok((line, at + size))
 }

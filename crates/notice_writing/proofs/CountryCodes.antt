@@ -12,7 +12,6 @@ use Rattle.dial_code.specs.Digits.{digits, value, is_number}
 use Rattle.dial_code.specs.Key.{digits_of_key}
 use Rattle.country_code.specs.CountryCode.{one_digit, two_digits, country_digits, country_of_key}
 use Rattle.allowed_code.specs.Code.{is_code, is_code_key}
-use Rattle.country_code.specs.declared.Country.TheVariants.{Code}
 use Rattle.dial_code.proofs.Tests.{and_left_true}
 use Rattle.dial_code.proofs.DigitLaws.{digits_take, value_below, digits_value, number_facts, number_cons, no_digits}
 use Rattle.country_code.proofs.CountryLaws.{country_opens, of_digits}
@@ -22,6 +21,7 @@ use Rattle.notice_header.specs.HeaderRule.{is_country_code}
 use Rattle.notice_writing.specs.Layout.{country_count}
 use Rattle.varint.proofs.Links.{yes_case}
 use Rattle.notice_header.proofs.Countries.{code_facts, first_some, value_least, test_opens}
+use Rattle.std.proofs.Common.{Some}
 
 -- The country code of a digit string by its first digits.
 one_digit_law : (a : ℕ) (s : List ℕ) → one_digit a ≡ true → country_digits (a ∷ s) ≡ 1
@@ -125,11 +125,11 @@ of_code ds e =
     }
 
 -- The country of an allowed code is such a value.
-pub country_value : (w c : ℕ) → is_code_key w ≡ true → country_of_key w ≡ Code c → CountryValue c
+pub country_value : (w c : ℕ) → is_code_key w ≡ true → country_of_key w ≡ Some c → CountryValue c
 country_value w c e f =
     let ds : List ℕ = digits_of_key w in
     let i : is_code ds ≡ true = (own_digits w e).0 in
-    let g : Code (value (take (country_digits ds) ds)) ≡ Code c =
+    let g : Some (value (take (country_digits ds) ds)) ≡ Some c =
     sym (country_opens ds ∙ yes_case _ _ (le-leb _ _ (code_facts ds i).1)) ∙ sym (of_digits w refl) ∙ f in
     let v : value (take (country_digits ds) ds) ≡ c = cc in
     subst CountryValue v (of_code ds i)

@@ -4,19 +4,17 @@ use mathlib.Core.Path.{◌≡◌, refl}
 use mathlib.Core.Bool.{Bool, true, false, cond, ◌&&◌}
 use Prim.Native.Nat.{ℕ, ◌+◌, ◌-◌, ◌*◌, ◌/◌, ◌^◌, ◌≤◌, ◌<◌}
 use native.Mathlib.Omega.{arith}
-use native.Mathlib.Nat.{one-le-pow, pow-le-pow_right, mul-div-le, lt-div-mul-add}
+use native.Mathlib.Nat.{one-le-pow, mul-div-le, lt-div-mul-add}
 use borrow.Author.Tests.{le-leb, lt-leb, leb-true}
 use lib.Dec.{leb, lit<}
 use Rattle.rate.specs.Price.{scaled, price_of, rate, dearest, most_decimals, most_mantissa}
 use Rattle.rate.specs.declared.Rate.{Rate}
-use Rattle.rate.specs.declared.Priced.TheVariants.{Open, Block, OutOfRange}
+use Rattle.rate.specs.declared.Price.TheVariants.{Open, Block}
+use Rattle.std.proofs.Common.{Some, None}
 
--- A power of ten is not 0, and at most 10 ^ 8 up to the eighth.
+-- A power of ten is not 0.
 pub power_some : (n : ℕ) → 0 < 10 ^ n
 power_some n = one-le-pow n 10 (lit< tt)
-
-pub power_most : {n : ℕ} → n ≤ 8 → 10 ^ n ≤ 10 ^ 8
-power_most h = pow-le-pow_right (lit< tt) h
 
 -- Up to eight decimals a mantissa is scaled up, and nothing is rounded.
 pub exact : (m d : ℕ) → d ≤ 8 → scaled m d ≡ m * 10 ^ (8 - d)
@@ -36,21 +34,21 @@ nearest m d h =
     rw (rounded m d h) (mul-div-le (m + q / 2) q, omega (arith, lt-div-mul-add {a = m + q / 2} (power_some (d - 8))))
 
 -- Numbers in range are open up to the dearest rate, and a block above it.
-pub open_to_dearest : (m d : ℕ) → d ≤ most_decimals → m ≤ most_mantissa → scaled m d ≤ dearest → price_of m d ≡ Open (rate (scaled m d))
+pub open_to_dearest : (m d : ℕ) → d ≤ most_decimals → m ≤ most_mantissa → scaled m d ≤ dearest → price_of m d ≡ Some (Open (rate (scaled m d)))
 unfolding price_of
 open_to_dearest m d a b h = simp (le-leb _ _ a, le-leb _ _ b, le-leb _ _ h)
 
-pub block_above : (m d : ℕ) → d ≤ most_decimals → m ≤ most_mantissa → dearest < scaled m d → price_of m d ≡ Block
+pub block_above : (m d : ℕ) → d ≤ most_decimals → m ≤ most_mantissa → dearest < scaled m d → price_of m d ≡ Some Block
 unfolding price_of
 block_above m d a b h = simp (le-leb _ _ a, le-leb _ _ b, lt-leb _ _ h)
 
 -- An open price is the scaled mantissa, and at most the dearest rate.
-pub open_price : (m d : ℕ) (r : Rate) → price_of m d ≡ Open r → (r.0 ≡ scaled m d) × (r.0 ≤ dearest)
+pub open_price : (m d : ℕ) (r : Rate) → price_of m d ≡ Some (Open r) → (r.0 ≡ scaled m d) × (r.0 ≤ dearest)
 unfolding price_of
 open_price m d r e = go (leb d most_decimals && leb m most_mantissa) (leb (scaled m d) dearest) refl e
   where
     go : (t u : Bool) → leb (scaled m d) dearest ≡ u →
-        cond t (cond u (Open (rate (scaled m d))) Block) OutOfRange ≡ Open r → (r.0 ≡ scaled m d) × (r.0 ≤ dearest)
+        cond t (Some (cond u (Open (rate (scaled m d))) Block)) None ≡ Some (Open r) → (r.0 ≡ scaled m d) × (r.0 ≤ dearest)
     go true true f e = let s : r.0 ≡ scaled m d = cc in (s, omega (arith, leb-true (scaled m d) dearest f))
-    go true false f e = let z : ◌≡◌ {A = ℕ} 0 1 = cc in absurd (omega arith)
-    go false u f e = let z : ◌≡◌ {A = ℕ} 0 1 = cc in absurd (omega arith)
+    go true false f e = cc
+    go false u f e = cc

@@ -11,7 +11,7 @@ use Rattle.rate.specs.OfferWord.{word_of, offer_of, opened, in_range, is_increme
 use Rattle.rate.specs.declared.Rate.{Rate}
 use Rattle.rate.specs.declared.Offer.{Offer}
 use Rattle.rate.specs.declared.Offer.TheVariants.{Closed, Blocked, Open}
-use Rattle.rate.specs.declared.Stored.TheVariants.{Holds, Invalid}
+use Rattle.std.proofs.Common.{Some, None}
 
 -- The parts of an open offer in range.
 pub record Parts (r first next : ℕ) : Type 0 where
@@ -55,23 +55,23 @@ abbrev pub PartsAt : ℕ → Type 0
 PartsAt x = Parts (x / 65536) (x / 256 % 256) (x % 256)
 
 -- A word from 2 up whose parts are in range stands for that open offer; one whose parts are not is no offer word.
-pub opens : (w : ℕ) → 2 ≤ w → PartsAt (w - 2) → offer_of w ≡ Holds (open_at (w - 2))
+pub opens : (w : ℕ) → 2 ≤ w → PartsAt (w - 2) → offer_of w ≡ Some (open_at (w - 2))
 unfolding offer_of
 opens w h p =
     simp (ne_eqb w 0 (λ e. omega arith), ne_eqb w 1 (λ e. omega arith))
-    (ap (λ (t : Bool). cond t (Holds (open_at (w - 2))) Invalid) ((parts _ _ _).1 p))
+    (ap (λ (t : Bool). cond t (Some (open_at (w - 2))) None) ((parts _ _ _).1 p))
 
-pub no_word : (w : ℕ) → 2 ≤ w → (PartsAt (w - 2) → ⊥) → offer_of w ≡ Invalid
+pub no_word : (w : ℕ) → 2 ≤ w → (PartsAt (w - 2) → ⊥) → offer_of w ≡ None
 unfolding offer_of
 no_word w h f =
     simp (ne_eqb w 0 (λ e. omega arith), ne_eqb w 1 (λ e. omega arith)) (go (in_range (open_at (w - 2))) refl)
   where
-    go : (t : Bool) → in_range (open_at (w - 2)) ≡ t → cond t (Holds (open_at (w - 2))) Invalid ≡ Invalid
+    go : (t : Bool) → in_range (open_at (w - 2)) ≡ t → cond t (Some (open_at (w - 2))) None ≡ None
     go true e = absurd (f ((parts _ _ _).0 e))
     go false e = refl
 
 -- The word of an offer in range reads back.
-pub reads_back : (o : Offer) → in_range o ≡ true → offer_of (word_of o) ≡ Holds o
+pub reads_back : (o : Offer) → in_range o ≡ true → offer_of (word_of o) ≡ Some o
 unfolding offer_of word_of
 reads_back Closed h = refl
 reads_back Blocked h = refl
@@ -82,24 +82,24 @@ reads_back (Open r first next) h =
     let a : x / 65536 ≡ r.0 = omega arith in
     let b : x / 256 % 256 ≡ first = omega arith in
     let d : x % 256 ≡ next = omega arith in
-    opens w (omega arith) (omega arith) ∙ (λ i. Holds (Open (rate (a i)) (b i) (d i)))
+    opens w (omega arith) (omega arith) ∙ (λ i. Some (Open (rate (a i)) (b i) (d i)))
 
 -- What a word from 2 up stands for has that word.
-only_open : (x : ℕ) (o : Offer) → opened x ≡ Holds o → (word_of o ≡ 2 + x) × (in_range o ≡ true)
+only_open : (x : ℕ) (o : Offer) → opened x ≡ Some o → (word_of o ≡ 2 + x) × (in_range o ≡ true)
 unfolding opened word_of
 only_open x o e = go (in_range (open_at x)) refl e
   where
-    go : (t : Bool) → in_range (open_at x) ≡ t → cond t (Holds (open_at x)) Invalid ≡ Holds o → (word_of o ≡ 2 + x) × (in_range o ≡ true)
+    go : (t : Bool) → in_range (open_at x) ≡ t → cond t (Some (open_at x)) None ≡ Some o → (word_of o ≡ 2 + x) × (in_range o ≡ true)
     go true h e = let f : o ≡ open_at x = cc in (ap word_of f ∙ omega arith, ap in_range f ∙ h)
     go false h e = let z : ◌≡◌ {A = ℕ} 0 1 = cc in absurd (omega arith)
 
 -- A word that stands for an offer is that offer's word, and the offer is in range.
-pub only_word : (w : ℕ) (o : Offer) → offer_of w ≡ Holds o → (word_of o ≡ w) × (in_range o ≡ true)
+pub only_word : (w : ℕ) (o : Offer) → offer_of w ≡ Some o → (word_of o ≡ w) × (in_range o ≡ true)
 unfolding offer_of word_of
 only_word w o e = go (eqb w 0) refl (eqb w 1) refl e
   where
     go : (t : Bool) → eqb w 0 ≡ t → (u : Bool) → eqb w 1 ≡ u →
-        cond t (Holds Closed) (cond u (Holds Blocked) (opened (w - 2))) ≡ Holds o → (word_of o ≡ w) × (in_range o ≡ true)
+        cond t (Some Closed) (cond u (Some Blocked) (opened (w - 2))) ≡ Some o → (word_of o ≡ w) × (in_range o ≡ true)
     go true a u b e = let f : o ≡ Closed = cc in (ap word_of f ∙ sym (eqb-true w 0 a), ap in_range f)
     go false a true b e = let f : o ≡ Blocked = cc in (ap word_of f ∙ sym (eqb-true w 1 b), ap in_range f)
     go false a false b e =
@@ -109,7 +109,7 @@ only_word w o e = go (eqb w 0) refl (eqb w 1) refl e
 -- Two offers in range with one word are the same.
 pub same_word : (o p : Offer) → in_range o ≡ true → in_range p ≡ true → word_of o ≡ word_of p → o ≡ p
 same_word o p h k e =
-    let s : Holds o ≡ Holds p = sym (reads_back o h) ∙ ap offer_of e ∙ reads_back p k in
+    let s : Some o ≡ Some p = sym (reads_back o h) ∙ ap offer_of e ∙ reads_back p k in
     cc
 
 -- Only closed has the word 0.

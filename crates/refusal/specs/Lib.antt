@@ -1,2 +1,3 @@
--- The rules' own names for the refusal numbers.
+-- The refusals: their numbers, and how one ends a chain of steps.
 pub mod Refusal
+pub mod Steps

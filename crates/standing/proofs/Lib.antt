@@ -1,3 +1,3 @@
 -- The laws of what stands.
 pub mod Sizes
-pub mod Turns
+pub mod Counted

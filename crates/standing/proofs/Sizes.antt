@@ -1,20 +1,18 @@
 -- The line of any entry has an encoding, of at most 21 bytes; so what the entries add takes few lines and few bytes.
 -- Assumes nothing.
-use mathlib.Core.Path.{◌≡◌, refl, ap, sym, ◌∙◌}
+use mathlib.Core.Path.{◌≡◌, refl, ap, ◌∙◌}
 use mathlib.Core.Bool.{Bool, true, false}
 use mathlib.Core.List.{List, [], ◌∷◌, ◌++◌, append-nil}
 use Prim.Native.Nat.{ℕ, ◌+◌, ◌*◌, ◌^◌, ◌≤◌, ◌<◌}
 use native.Mathlib.Omega.{arith}
 use lib.ListN.{length, length-append}
-use Rattle.varint_encoding.specs.Several.{encode_all, encodable_all, size_of_all}
+use Rattle.varint_encoding.specs.Several.{encode_all, encodable_all}
 use Rattle.varint_encoding.proofs.Laws.{size_below}
-use Rattle.varint_encoding.proofs.Several.{all_nil, all_sized, bytes_nil, length_bytes_cons}
+use Rattle.varint_encoding.proofs.Several.{all_nil, bytes_nil, length_bytes_cons}
 use Rattle.dial_code.specs.Key.{code_of}
 use Rattle.rate.specs.OfferWord.{offer_of, in_range}
 use Rattle.rate.specs.declared.Offer.{Offer}
 use Rattle.rate.specs.declared.Offer.TheVariants.{Closed, Blocked, Open}
-use Rattle.rate.specs.declared.Stored.{Stored}
-use Rattle.rate.specs.declared.Stored.TheVariants.{Holds, Invalid}
 use Rattle.rate.proofs.Words.{only_word, parts}
 use Rattle.line_writing.specs.LineLayout.{offer_fields, line_fields, encode_line, encode_lines}
 use Rattle.notice_line.specs.declared.Line.{Line}
@@ -23,15 +21,16 @@ use Rattle.line_writing.proofs.Encodable.{code_fits, one_more, terms_encodable}
 use Rattle.book.specs.Status.{held_offer}
 use Rattle.book_words.specs.declared.Entry.{Entry}
 use Rattle.standing.specs.Pass.{stands, offer_at, entry_line, added_by, passed}
+use Rattle.std.proofs.Common.{Option, Some, None}
 
 -- What any word stands for is in range.
 pub offer_in_range : (w : ℕ) → in_range (offer_at w) ≡ true
 unfolding in_range
 offer_in_range w = go (offer_of w) refl
   where
-    go : (r : Stored) → offer_of w ≡ r → in_range (held_offer r) ≡ true
-    go (Holds o) e = (only_word w o e).1
-    go Invalid e = refl
+    go : (r : Option Offer) → offer_of w ≡ r → in_range (held_offer r) ≡ true
+    go (Some o) e = (only_word w o e).1
+    go None e = refl
 
 -- No numbers take no bytes, and one number more, below 128 to the power k, takes at most k bytes more.
 pub none_few : length (encode_all []) ≤ 0
@@ -74,9 +73,6 @@ module _ (e : Entry) where
       ∙ one_more _ _ (omega arith)
       (one_more _ _ (omega arith)
       (terms_encodable (offer_at e.offer) (0 ∷ []) (offer_in_range e.offer) (one_more 0 [] (omega arith) all_nil)))
-
-  pub entry_sized : size_of_all (line_fields (entry_line e)) ≡ length (encode_line (entry_line e))
-  entry_sized = all_sized (line_fields (entry_line e)) entry_encodable ∙ sym (ap length (line_bytes (entry_line e)))
 
   entry_few : length (encode_line (entry_line e)) ≤ most_line
   entry_few =

@@ -2,102 +2,102 @@
 // (document 01, "Charging and writing"). Of any words: the entries are those that a sound header counts.
 #![tactic(auto)]
 
-ghost use Rattle.std.specs.Prelude.{◌≡◌, length};
+ghost use Rattle.std.specs.Prelude.{◌≡◌, List, length};
+ghost use Rattle.std.specs.Iterator.{YieldsFirst, item_count};
 ghost use Rattle.line_writing.specs.LineLayout.{encode_lines};
-ghost use Rattle.book_words.specs.Layout.{entries_from};
-ghost use Rattle.standing.specs.Pass.{stands, entry_line, added_by, lines_by};
+ghost use Rattle.notice_line.specs.declared.Line.{Line};
+ghost use Rattle.standing.specs.Pass.{stands, entry_line, passed, lines_by};
 
-use book_words::Entry;
+use book_words::{Entries, Entry};
 use notice_line::Line;
-use rate::{Offer, Stored};
+use rate::Offer;
+use std::marker::Model;
 
-// Whether an entry is its code's status on a day, and that is not closed. The `left` entries at `at` are those after it.
-pub fn is_standing(words: &[u64], at: u32, left: usize, e: Entry, day: u64) -> bool
-    ensures { result ≡ stands e (entries_from words.now at left) day }
+// Whether an entry is its code's status on a day, and that is not closed; `after` are the entries after it.
+#[tactic(auto, unfolding(crate::specs::Pass::stands, crate::specs::Pass::is_replaced))]
+pub fn is_standing(e: Entry, after: &Entries, day: u64) -> bool
+    ensures { result ≡ stands e after.now day }
 {
-    if day < e.day {
-        return false;
-    }
-    if e.offer == 0 {
-        return false;
-    }
-    if left == 0 {
-        return true;
-    }
-    let next = book_words::entry_at(words, at);
-    if e.key != next.key {
-        return true;
-    }
-    day < next.day
+    e.day <= day
+        && e.offer != 0
+        && !after
+            .peek()
+            .is_some_and(|next| next.key == e.key && next.day <= day)
 }
 
 // The line of an entry: it has no listed day.
+#[tactic(auto, unfolding(crate::specs::Pass::entry_line))]
 pub fn line_of(e: Entry) -> Line
     ensures { result ≡ entry_line e }
 {
-    match rate::word_offer(e.offer) {
-        Stored::Holds(offer) => Line {
-            key: e.key,
-            offer,
-            listed: 0,
-        },
-        // No entry of a sound book has such a word.
-        Stored::Invalid => Line {
-            key: e.key,
-            offer: Offer::Closed,
-            listed: 0,
-        },
+    Line {
+        key: e.key,
+        // Every entry of a sound book has an offer word.
+        offer: Offer::try_from(e.offer).unwrap_or(Offer::Closed),
+        listed: 0,
     }
 }
 
-// How many lines an entry adds to the list.
-fn added_lines(words: &[u64], at: u32, left: usize, e: Entry, day: u64) -> usize
-    ensures { result ≡ length (added_by e (entries_from words.now at left) day) }
-{
-    if !is_standing(words, at, left, e, day) {
-        return 0;
-    }
-    1
+// The lines of a day that are left, the next first.
+#[derive(Drop)]
+pub struct Lines<'a> {
+    rest: Entries<'a>,
+    day: u64,
 }
 
-// How many bytes an entry adds to the list.
-fn added_size(words: &[u64], at: u32, left: usize, e: Entry, day: u64) -> usize
-    ensures { result ≡ length (encode_lines (added_by e (entries_from words.now at left) day)) }
-{
-    if !is_standing(words, at, left, e, day) {
-        return 0;
-    }
-    line_writing::line_size(line_of(e))
+impl<'a> Model for Lines<'a> {
+    ghost Value = { List Line };
+
+    ghost view = { λ lines. passed lines.rest lines.day };
 }
 
-// How many lines the entries add to the list of a day. No key is taken apart.
+impl<'a> Lines<'a> {
+    // Those of a book's words. No key is taken apart.
+    #[tactic(auto, using(crate::proofs::Counted::all_counted), unfolding(crate::specs::Pass::lines_by))]
+    pub fn of(words: &'a [u64], day: u64) -> Self
+        ensures { result ≡ lines_by words.now day }
+    {
+        Lines {
+            rest: Entries::of(words, book::headed_count(words)),
+            day,
+        }
+    }
+}
+
+impl<'a> Iterator for Lines<'a> {
+    type Item = Line;
+
+    ghost next_gives = { YieldsFirst (λ lines. lines) };
+
+    ghost remaining = { item_count (λ lines. lines) };
+
+    #[tactic(auto, unfolding(crate::specs::Pass::passed, crate::specs::Pass::added_by))]
+    fn next(&mut self) -> Option<Line> {
+        while let Some(e) = self.rest.next() {
+            if is_standing(e, &self.rest, self.day) {
+                return Some(line_of(e));
+            }
+        }
+        None
+    }
+}
+
+// How many lines the entries add to the list of a day.
+#[tactic(auto, using(crate::proofs::Counted::lines_few))]
 pub fn count_lines(words: &[u64], day: u64) -> usize
     ensures { result ≡ length (lines_by words.now day) }
 {
-    let mut lines: usize = 0;
-    let mut at = book_words::HEADER_WORDS as u32;
-    let mut left = book::headed_count(words);
-    while 0 < left {
-        let e = book_words::entry_at(words, at);
-        at += book_words::ENTRY_WORDS as u32;
-        left -= 1;
-        lines += added_lines(words, at, left, e, day);
-    }
-    lines
+    Lines::of(words, day).count()
 }
 
-// How many bytes these lines take.
+// How many bytes these lines take: each has a size, since its fields have encodings.
+#[tactic(auto, using(crate::proofs::Counted::bytes_few, crate::proofs::Counted::lines_encodable, crate::proofs::Counted::first_sized), unfolding(line_writing::specs::LineLayout::encode_lines))]
 pub fn lines_size(words: &[u64], day: u64) -> usize
     ensures { result ≡ length (encode_lines (lines_by words.now day)) }
 {
-    let mut size: usize = 0;
-    let mut at = book_words::HEADER_WORDS as u32;
-    let mut left = book::headed_count(words);
-    while 0 < left {
-        let e = book_words::entry_at(words, at);
-        at += book_words::ENTRY_WORDS as u32;
-        left -= 1;
-        size += added_size(words, at, left, e, day);
+    let mut size = 0;
+    for line in Lines::of(words, day) {
+        size += line_writing::line_size(line).unwrap();
     }
     size
 }

@@ -13,30 +13,30 @@ use lib.Seq.{get_or-set_same, get_or-set_other}
 use Rattle.dial_code.specs.Digits.{every, is_digit, value}
 use Rattle.dial_code.specs.Key.{digits_of_key}
 use Rattle.country_code.specs.CountryCode.{one_digit, two_digits, country_digits, country, country_of_key}
-use Rattle.country_code.specs.declared.Country.{Country}
-use Rattle.country_code.specs.declared.Country.TheVariants.{Code, None}
 use Rattle.dial_code.proofs.DigitLaws.{digits_take, value_below}
 use Rattle.longest_match.proofs.Matching.{word_digits}
 use Rattle.notice.specs.NoticeRule.{Notice}
-use Rattle.notice_header.specs.HeaderRule.{full, partial, replacement}
+use Rattle.notice_header.specs.declared.Kind.{Kind}
+use Rattle.notice_header.specs.declared.Kind.TheVariants.{Full, Partial, Update, Replacement}
 use Rattle.notice_line.specs.declared.Line.{Line}
 use Rattle.notice.specs.declared.Summary.{Summary}
-use Rattle.history.specs.Effect.{same_country, named_by, in_country, closes}
+use Rattle.history.specs.Effect.{same_country, named_by, in_country, closes_as, closes}
 use Rattle.closing.specs.Closings.{is_marked, closes_in, closes_by}
 use Rattle.update.specs.Plans.{plan_of}
 use Rattle.country_marks.specs.Marks.{marked, marks_of, no_marks, marks_for}
 use Rattle.update.proofs.PlanLaws.{Summed}
 use Rattle.country_marks.proofs.Marking.{length_marked}
+use Rattle.std.proofs.Common.{Option, Some, None}
 
 -- a mark below the table's length
 marked_at :
-    (c : ℕ) (x : Country) (marks : List ℕ)
+    (c : ℕ) (x : Option ℕ) (marks : List ℕ)
     → c < 1000
     → length marks ≡ 1000
-    → is_marked (marked x marks) c ≡ (same_country x (Code c) || is_marked marks c)
+    → is_marked (marked x marks) c ≡ (same_country x (Some c) || is_marked marks c)
 unfolding is_marked
 marked_at c None marks h l = refl
-marked_at c (Code b) marks h l = go (eqb b c) refl
+marked_at c (Some b) marks h l = go (eqb b c) refl
   where
     go : (t : Bool) → eqb b c ≡ t
         → cond (ltb c 1000) (eqb (get_or (set marks b 1) c 0) 1) false ≡ (t || cond (ltb c 1000) (eqb (get_or marks c 0) 1) false)
@@ -52,15 +52,15 @@ marks_name :
     (c k : ℕ) (ls : List Line) (marks : List ℕ)
     → c < 1000
     → length marks ≡ 1000
-    → country_of_key k ≡ Code c
+    → country_of_key k ≡ Some c
     → is_marked (marks_of marks ls) c ≡ (named_by ls k || is_marked marks c)
 unfolding marks_of named_by
 marks_name c k [] marks h l e = refl
 marks_name c k (y ∷ ls) marks h l e =
     marks_name c k ls (marked (country_of_key y.key) marks) h (length_marked (country_of_key y.key) marks ∙ l) e
     ∙ ap (λ (t : Bool). named_by ls k || t) (marked_at c (country_of_key y.key) marks h l)
-    ∙ swap (named_by ls k) (same_country (country_of_key y.key) (Code c)) (is_marked marks c)
-    ∙ ap (λ (x : Country). same_country (country_of_key y.key) x || named_by ls k || is_marked marks c) (sym e)
+    ∙ swap (named_by ls k) (same_country (country_of_key y.key) (Some c)) (is_marked marks c)
+    ∙ ap (λ (x : Option ℕ). same_country (country_of_key y.key) x || named_by ls k || is_marked marks c) (sym e)
   where
     swap : (a b d : Bool) → (a || (b || d)) ≡ (b || a || d)
     swap true true d = refl
@@ -78,8 +78,8 @@ unfolding named_by
 none_named k [] e = refl
 none_named k (y ∷ ls) e = ap₂ ◌||◌ (ap (same_country (country_of_key y.key)) e ∙ no_country (country_of_key y.key)) (none_named k ls e)
   where
-    no_country : (x : Country) → same_country x None ≡ false
-    no_country (Code c) = refl
+    no_country : (x : Option ℕ) → same_country x None ≡ false
+    no_country (Some c) = refl
     no_country None = refl
 
 -- A country code has at most three digits.
@@ -98,7 +98,7 @@ few_digits (a ∷ b ∷ ds) = go (one_digit a) (two_digits (a * 10 + b))
     go false true = omega arith
     go false false = omega arith
 
-country_few : (ds : List ℕ) (c : ℕ) → every is_digit ds ≡ true → country ds ≡ Code c → c < 1000
+country_few : (ds : List ℕ) (c : ℕ) → every is_digit ds ≡ true → country ds ≡ Some c → c < 1000
 unfolding country
 country_few ds c e q = go (leb (country_digits ds) (length ds)) q
   where
@@ -111,12 +111,12 @@ country_few ds c e q = go (leb (country_digits ds) (length ds)) q
     small : value first < 1000
     small = lt_of_lt_of_le (value_below first (digits_take (country_digits ds) ds e)) (pow-le-pow_right (lit< tt) {i = length first} {j = 3} short)
 
-    go : (t : Bool) → cond t (Code (value first)) None ≡ Code c → c < 1000
+    go : (t : Bool) → cond t (Some (value first)) None ≡ Some c → c < 1000
     go true r = let w : value first ≡ c = cc in omega (arith, small, w)
     go false r = let z : ◌≡◌ {A = ℕ} 0 1 = cc in absurd (omega arith)
 
 -- A country's value is below 1,000.
-pub country_below : (w c : ℕ) → country_of_key w ≡ Code c → c < 1000
+pub country_below : (w c : ℕ) → country_of_key w ≡ Some c → c < 1000
 unfolding country_of_key
 country_below w c e = country_few (digits_of_key w) c (word_digits w).0 e
 
@@ -125,31 +125,26 @@ pub closes_is :
     (m : Summary) (n : Notice)
     → Summed m n
     → (period latest k : ℕ)
-    → closes_by (plan_of m period latest) (marks_for m.kind n.lines) k ≡ closes n k
+    → closes_by (plan_of m period latest) (marks_for m.header.kind n.lines) k ≡ closes n k
 unfolding closes_by closes plan_of marks_for
-closes_is m n s period latest k =
-    ap (λ (t : Bool). cond (eqb m.kind full) true t) (by_country (country_of_key k) refl)
-    ∙ ap₂ (λ (kind c : ℕ). cond (eqb kind full) true (cond (eqb kind partial) (named_by n.lines k) (cond (eqb kind replacement) (in_country c (country_of_key k)) false)))
-    (sym s.kind) (sym s.country)
+closes_is m n s period latest k = rw (← s.kind) (go n.kind)
   where
-    marks : List ℕ
-    marks = marks_for m.kind n.lines
-
-    unnamed : (t u : Bool) → named_by n.lines k ≡ false → false ≡ cond t (named_by n.lines k) (cond u false false)
-    unnamed true u e = sym e
-    unnamed false true e = refl
-    unnamed false false e = refl
-
-    by_marks : (c : ℕ) → country_of_key k ≡ Code c → (t : Bool) (x : Bool)
-        → cond t (is_marked (cond t (marks_of no_marks n.lines) no_marks) c) x ≡ cond t (named_by n.lines k) x
-    by_marks c e true x =
+    by_marks :
+        (x : Option ℕ)
+        → country_of_key k ≡ x
+        → closes_in Partial (marks_of no_marks n.lines) x ≡ named_by n.lines k
+    by_marks (Some c) e =
         marks_name c k n.lines no_marks (country_below k c e) (length-replicate {A = ℕ} 1000 0) e
         ∙ ap (λ (t : Bool). named_by n.lines k || t) (none_marked c (country_below k c e))
         ∙ or-false (named_by n.lines k)
-    by_marks c e false x = refl
+    by_marks None e = sym (none_named k n.lines e)
 
-    by_country : (x : Country) → country_of_key k ≡ x
-        → closes_in (plan_of m period latest) marks x
-        ≡ cond (eqb m.kind partial) (named_by n.lines k) (cond (eqb m.kind replacement) (in_country m.country x) false)
-    by_country (Code c) e = by_marks c e (eqb m.kind partial) (cond (eqb m.kind replacement) (eqb c m.country) false)
-    by_country None e = unnamed (eqb m.kind partial) (eqb m.kind replacement) (none_named k n.lines e)
+    by_country : (named : ℕ) (x : Option ℕ) → closes_in (Replacement named) no_marks x ≡ in_country named x
+    by_country named (Some c) = refl
+    by_country named None = refl
+
+    go : (kind : Kind) → closes_in kind (marks_for kind n.lines) (country_of_key k) ≡ closes_as kind n.lines k
+    go Full = refl
+    go Partial = by_marks (country_of_key k) refl
+    go Update = refl
+    go (Replacement named) = by_country named (country_of_key k)

@@ -16,6 +16,8 @@ use Rattle.rate.specs.declared.Offer.{Offer}
 use Rattle.rate.specs.declared.Offer.TheVariants.{Closed}
 use Rattle.rate.proofs.Words.{closed_word}
 use Rattle.notice.specs.NoticeRule.{Notice}
+use Rattle.notice_header.specs.HeaderRule.{kind_country}
+use Rattle.notice_line.specs.LineRule.{key_before}
 use Rattle.notice_line.specs.declared.Line.{Line}
 use Rattle.notice.specs.declared.Summary.{Summary}
 use Rattle.notice.proofs.Checking as checking
@@ -50,6 +52,7 @@ use Rattle.update.proofs.Marks.{closes_is}
 use Rattle.merge_rule.proofs.Beyond.{sound_keys}
 use Rattle.merge_rule.proofs.MergedStatus.{Rising, Found, none, some, change_for, outcome, merged_status}
 use Rattle.merge_rule.proofs.MergedSound.{AllAllowed, merged_sound}
+use Rattle.std.proofs.Common.{Option, Some, None}
 
 -- the change of a line that is listed
 found : Plan → Known → Listing → Found
@@ -77,13 +80,13 @@ below_keys x h = go (order x keys_end)
     go (above l) = absurd (true≢false (sym h ∙ beyond_keys x (omega arith)))
 
 changes_rise :
-    (p : Plan) (k : Known) (named before last : ℕ) (ls : List Line)
-    → ValidFrom named before last ls
-    → Rising before keys_end (changes_by p (given k) ls)
+    (p : Plan) (k : Known) (named : Option ℕ) (before : Option Line) (ls : List Line)
+    → ValidFrom named before ls
+    → Rising (key_before before) keys_end (changes_by p (given k) ls)
 unfolding ValidFrom Rising changes_by change_by
-changes_rise p k named before last [] v = tt
-changes_rise p k named before last (l ∷ ls) v =
-    (v.0.rises, below_keys l.key v.0.allowed, changes_rise p k named l.key l.listed ls v.1)
+changes_rise p k named before [] v = tt
+changes_rise p k named before (l ∷ ls) v =
+    (v.0.rises, below_keys l.key v.0.allowed, changes_rise p k named (Some l) ls v.1)
 
 changes_allowed :
     (p : Plan) (k : Known) (ls : List Line)
@@ -147,7 +150,7 @@ module _ (ws : List ℕ) (m : Summary) (n : Notice) (h : sound ws ≡ true) (v :
   plan = plan_of m (period_of ws) (latest_of ws)
 
   abbrev marks : List ℕ
-  marks = marks_for m.kind n.lines
+  marks = marks_for m.header.kind n.lines
 
   late : latest_of ws ≤ last_day
   late = (sound_book ws h).header.latest_most
@@ -169,7 +172,7 @@ module _ (ws : List ℕ) (m : Summary) (n : Notice) (h : sound ws ≡ true) (v :
   merged_are_sound =
       merged_sound keys_end (closes_by plan marks) plan.closing (entries_of ws) (changes_by plan (given (in_book ws)) n.lines)
       (sound_book ws h).entries
-      (changes_rise plan (in_book ws) n.country 0 0 n.lines v.lines_valid)
+      (changes_rise plan (in_book ws) (kind_country n.kind) None n.lines v.lines_valid)
       (changes_allowed plan (in_book ws) n.lines g.lines
       (λ l a. rw (effective_by_plan l) (effective_by_law (period_of ws) few (in_book ws) n g l a)))
       (rw closing_day (closing_by (period_of ws) few (in_book ws) n g))
@@ -193,7 +196,7 @@ module _ (ws : List ℕ) (m : Summary) (n : Notice) (h : sound ws ≡ true) (v :
       merged_status keys_end (closes_by plan marks) plan.closing (entries_of ws) (changes_by plan (given (in_book ws)) n.lines)
       (sound_book ws h).entries
       (sound_keys keys_end (entries_of ws) (omega arith) (sound_book ws h).entries)
-      (changes_rise plan (in_book ws) n.country 0 0 n.lines v.lines_valid)
+      (changes_rise plan (in_book ws) (kind_country n.kind) None n.lines v.lines_valid)
       x d
       ∙ ap (λ (f : Found). outcome (closes_by plan marks) plan.closing f x d (status_in (entries_of ws) x d)) (found_line plan (in_book ws) x n.lines)
       ∙ by_listing x d (line_for x n.lines)
@@ -221,12 +224,12 @@ pub new_facts :
     (ws s : List ℕ) (m : Summary)
     → sound ws ≡ true
     → (p : checking.Passed s m)
-    → (merged_by ws (plan_of m (period_of ws) (latest_of ws)) (marks_for m.kind p.sent.lines) p.sent.lines ≡ new_entries ws p.sent)
+    → (merged_by ws (plan_of m (period_of ws) (latest_of ws)) (marks_for m.header.kind p.sent.lines) p.sent.lines ≡ new_entries ws p.sent)
     × (latest_by (plan_of m (period_of ws) (latest_of ws)) (found_in ws) (latest_of ws) p.sent.lines ≡ (after_book ws p.sent).latest)
 new_facts ws s m h p =
     let n = p.sent in
     let g = good s n p.read in
-    let f : Summed m n = record { kind = p.kind; country = p.country; received = p.received; earliest_day = p.earliest_day } in (
+    let f : Summed m n = record { kind = p.kind; received = p.received; earliest_day = p.earliest_day } in (
       merged_is ws m n h (notice_valid s n p.read) g f,
       latest_known ws (plan_of m (period_of ws) (latest_of ws)) h (latest_of ws) n.lines g.lines
           ∙ latest_is m n f (period_of ws) (in_book ws) (sound_book ws h).header.latest_most n.lines,

@@ -3,26 +3,27 @@
 use mathlib.Core.Path.{◌≡◌, refl, ap, ap₂, sym, ◌∙◌}
 use mathlib.Core.Bool.{Bool, true, false, cond, ◌||◌, or_assoc}
 use mathlib.Core.List.{List, [], ◌∷◌}
-use mathlib.Core.Logic.{◌⊎◌, ⊎_elim}
 use Prim.Native.Nat.{ℕ, ◌+◌, ◌-◌, min, max, ◌≤◌, ◌<◌}
 use native.Mathlib.Omega.{arith}
-use borrow.Author.Tests.{lt-ltb, le-ltb, ltb-true, ltb-false, eqb-true}
-use lib.Dec.{eqb, ltb}
+use borrow.Author.Tests.{lt-ltb, le-ltb, ltb-true, ltb-false}
+use lib.Dec.{ltb}
 use lib.ListN.{length}
 use Rattle.calendar.specs.Time.{last_day}
 use Rattle.notice.specs.NoticeRule.{Notice, earliest}
-use Rattle.notice_header.specs.HeaderRule.{replacement}
+use Rattle.notice_header.specs.declared.Kind.{Kind}
+use Rattle.notice_header.specs.declared.Kind.TheVariants.{Full, Partial, Update, Replacement}
 use Rattle.notice_line.specs.declared.Line.{Line}
 use Rattle.notice.specs.declared.Summary.{Summary}
 use Rattle.notice.proofs.LinesLaws.{ValidFrom}
 use Rattle.notice.proofs.NoticeLaws.{Valid}
-use Rattle.history.specs.Effect.{Known, increases, wanted, floor_of, some_earlier, out_of_sequence, effective, first_noticed, closing, latest_effective}
+use Rattle.history.specs.Effect.{Known, is_replacement, increases, wanted, floor_of, some_earlier, out_of_sequence, effective, first_noticed, closing, latest_effective}
 use Rattle.rate.specs.declared.Offer.{Offer}
 use Rattle.rate.specs.declared.Offer.TheVariants.{Closed, Blocked, Open}
 use Rattle.dial_code.specs.Key.{digits_of_key}
 use Rattle.longest_match.specs.Match.{matched}
 use Rattle.effect.specs.Lines.{raises, effective_by, latest_by}
 use Rattle.update.specs.Plans.{plan_of}
+use Rattle.std.proofs.Common.{Some, None}
 
 -- The offer that is known for a code on a day, by longest match; an increase over it is an increase.
 abbrev pub given : Known → ℕ → ℕ → Offer
@@ -35,9 +36,8 @@ raised before k d (Open r first next) = refl
 
 -- What a summary tells of a notice.
 pub record Summed (m : Summary) (n : Notice) : Type 0 where
-  pub kind : n.kind ≡ m.kind
-  pub country : n.country ≡ m.country
-  pub received : n.received ≡ m.received
+  pub kind : n.kind ≡ m.header.kind
+  pub received : n.received ≡ m.header.received
   pub earliest_day : earliest n.lines ≡ m.earliest
 
 -- Some line's wanted day is before a day where the earliest one is.
@@ -61,22 +61,19 @@ some_earlier_law late n (l ∷ ls) h =
     ap (λ (t : Bool). ltb (wanted n l) late || t) (some_earlier_law late n ls h) ∙ earlier_or n.received (l.listed - 1) (earliest ls) late
 
 -- A replacement's lines agree in their last field, so the first line's day is the earliest.
-same_day : (named k x : ℕ) (ls : List Line) → 0 < named → 0 < k → x ≤ last_day + 1 → ValidFrom named k x ls → x - 1 ≤ earliest ls
+same_day : (named : ℕ) (l : Line) (ls : List Line) → l.listed ≤ last_day + 1 → ValidFrom (Some named) (Some l) ls → l.listed - 1 ≤ earliest ls
 unfolding ValidFrom earliest
-same_day named k x [] h l m v = omega arith
-same_day named k x (y ∷ ls) h l m v =
-    let q : y.listed ≡ x = agree v.0.agrees in
-    omega (arith, same_day named y.key y.listed ls h (omega (arith, v.0.rises)) (omega (arith, q)) v.1, q)
-  where
-    agree : (named ≡ 0) ⊎ ((k ≡ 0) ⊎ (y.listed ≡ x)) → y.listed ≡ x
-    agree = ⊎_elim (λ e. absurd (omega arith)) (⊎_elim (λ e. absurd (omega arith)) (λ e. e))
+same_day named l [] m v = omega arith
+same_day named l (y ∷ ls) m v =
+    let q : y.listed ≡ l.listed = v.0.agrees named l refl refl in
+    omega (arith, same_day named y ls (omega (arith, q)) v.1, q)
 
-first_day : (named : ℕ) (l : Line) (ls : List Line) → 0 < named → ValidFrom named 0 0 (l ∷ ls) → earliest (l ∷ ls) ≡ l.listed - 1
+first_day : (named : ℕ) (l : Line) (ls : List Line) → ValidFrom (Some named) None (l ∷ ls) → earliest (l ∷ ls) ≡ l.listed - 1
 unfolding ValidFrom earliest
-first_day named l ls h v = omega (arith, same_day named l.key l.listed ls h v.0.rises v.0.few v.1)
+first_day named l ls v = omega (arith, same_day named l ls v.0.few v.1)
 
 module _ (m : Summary) (n : Notice) (s : Summed m n) (period : ℕ) (before : Known) (late : before.latest ≤ last_day) where
-  in_sequence : ltb (max m.received m.earliest) before.latest ≡ out_of_sequence before n
+  in_sequence : ltb (max m.header.received m.earliest) before.latest ≡ out_of_sequence before n
   in_sequence =
       ap₂ (λ (r e : ℕ). ltb (max r e) before.latest) (sym s.received) (sym s.earliest_day)
       ∙ sym (some_earlier_law before.latest n n.lines late)
@@ -87,49 +84,45 @@ module _ (m : Summary) (n : Notice) (s : Summed m n) (period : ℕ) (before : Kn
   effective_is l =
       ap
       (λ (t : Bool).
-      cond (eqb m.kind replacement || ltb (max m.received m.earliest) before.latest || t)
-      (max (max m.received (l.listed - 1)) (m.received + period))
-      (max m.received (l.listed - 1)))
-      (raised before l.key (max m.received (l.listed - 1)) l.offer)
-      ∙ ap (λ (t : Bool). cond t (max (max m.received (l.listed - 1)) (m.received + period)) (max m.received (l.listed - 1)))
-      (or_assoc (eqb m.kind replacement) (ltb (max m.received m.earliest) before.latest) (increases before l.key (max m.received (l.listed - 1)) l.offer))
-      ∙ ap (λ (o : Bool). day m.kind m.received o) in_sequence
-      ∙ ap₂ (λ (k r : ℕ). day k r (out_of_sequence before n)) (sym s.kind) (sym s.received)
+      cond (is_replacement m.header.kind || ltb (max m.header.received m.earliest) before.latest || t)
+      (max (max m.header.received (l.listed - 1)) (m.header.received + period))
+      (max m.header.received (l.listed - 1)))
+      (raised before l.key (max m.header.received (l.listed - 1)) l.offer)
+      ∙ ap (λ (t : Bool). cond t (max (max m.header.received (l.listed - 1)) (m.header.received + period)) (max m.header.received (l.listed - 1)))
+      (or_assoc (is_replacement m.header.kind) (ltb (max m.header.received m.earliest) before.latest) (increases before l.key (max m.header.received (l.listed - 1)) l.offer))
+      ∙ ap (λ (o : Bool). day m.header.kind m.header.received o) in_sequence
+      ∙ ap₂ (λ (k : Kind) (r : ℕ). day k r (out_of_sequence before n)) (sym s.kind) (sym s.received)
     where
-      day : ℕ → ℕ → Bool → ℕ
+      day : Kind → ℕ → Bool → ℕ
       day k r o =
-          cond (eqb k replacement || (o || increases before l.key (max r (l.listed - 1)) l.offer))
+          cond (is_replacement k || (o || increases before l.key (max r (l.listed - 1)) l.offer))
           (max (max r (l.listed - 1)) (r + period))
           (max r (l.listed - 1))
 
   -- The day on which a notice closes codes.
   pub closing_is : (v : Valid n) → (plan_of m period before.latest).closing ≡ closing period n
   unfolding plan_of closing
-  closing_is v = go (eqb n.kind replacement) refl
+  closing_is v = rw (← s.kind, ← s.received, ← s.earliest_day) (go n.kind refl)
     where
       wait : ℕ
       wait = max (max n.received (earliest n.lines)) (n.received + period)
 
-      same_fields : cond (eqb m.kind replacement) (max (max m.received m.earliest) (m.received + period)) (m.received + period) ≡ cond (eqb n.kind replacement) wait (n.received + period)
-      same_fields =
-          ap₂ (λ (k r : ℕ). cond (eqb k replacement) (max (max r m.earliest) (r + period)) (r + period)) (sym s.kind) (sym s.received)
-          ∙ ap (λ (e : ℕ). cond (eqb n.kind replacement) (max (max n.received e) (n.received + period)) (n.received + period)) (sym s.earliest_day)
-
       first :
-          (ls : List Line)
+          (named : ℕ) (ls : List Line)
           → 1 ≤ length ls
-          → n.kind ≡ replacement
-          → ValidFrom n.country 0 0 ls
+          → ValidFrom (Some named) None ls
           → max (max n.received (earliest ls)) (n.received + period) ≡ first_noticed period n ls
-      first [] h k w = absurd (omega arith)
-      first (l ∷ ls) h k w = ap (λ (d : ℕ). max (max n.received d) (n.received + period)) (first_day n.country l ls (v.named k) w)
+      first named [] h w = absurd (omega arith)
+      first named (l ∷ ls) h w = ap (λ (d : ℕ). max (max n.received d) (n.received + period)) (first_day named l ls w)
 
       go :
-          (t : Bool)
-          → eqb n.kind replacement ≡ t
-          → cond (eqb m.kind replacement) (max (max m.received m.earliest) (m.received + period)) (m.received + period) ≡ cond (eqb n.kind replacement) (first_noticed period n n.lines) (floor_of period n)
-      go true e = same_fields ∙ rw e (first n.lines v.some_lines (eqb-true _ _ e) v.lines_valid)
-      go false e = same_fields ∙ rw e
+          (kind : Kind)
+          → n.kind ≡ kind
+          → cond (is_replacement kind) wait (n.received + period) ≡ cond (is_replacement kind) (first_noticed period n n.lines) (floor_of period n)
+      go Full e = refl
+      go Partial e = refl
+      go Update e = refl
+      go (Replacement named) e = first named n.lines v.some_lines (rw e at v.lines_valid)
 
   latest_swap :
       (l : Line) (a : ℕ) (ls : List Line)

@@ -2,14 +2,13 @@
 // book is merged with its lines, counted first unless there is room in any case.
 #![tactic(auto)]
 
-ghost use Rattle.std.specs.Prelude.{◌≡◌, true, ◌+◌, ◌*◌, ◌≤◌, leb, length};
+ghost use Rattle.std.specs.Prelude.{◌≡◌, true, Ok, ◌+◌, ◌*◌, ◌≤◌, leb, length};
 ghost use Rattle.calendar.specs.Time.{last_received_day};
 ghost use Rattle.notice_header.specs.HeaderRule.{most_lines};
 ghost use Rattle.notice.specs.NoticeRule.{check_notice};
-ghost use Rattle.notice.specs.declared.Checked.TheVariants.{Notice};
 ghost use Rattle.book_words.specs.Layout.{header_words, entry_words, most_period, held, book_of, period_of, latest_of};
 ghost use Rattle.book.specs.Soundness.{sound};
-ghost use Rattle.history.specs.Applying.{refused_apply, apply_answer, applied};
+ghost use Rattle.history.specs.Applying.{apply_answer, applied};
 ghost use Rattle.effect.specs.Lines.{found_in, latest_by};
 ghost use Rattle.notice.specs.Lines.{lines_at};
 ghost use Rattle.merge.specs.Merge.{merged_by};
@@ -19,86 +18,68 @@ use book_words::Header;
 use effect::Plan;
 use history::Applied;
 use merge::Merged;
-use notice::{Checked, Summary};
+use notice::Summary;
+use notice_header::Kind;
+use refusal::Refusal;
 
 // Applies a notice to an old book and writes the new one: 20 and 21 for the old book, 20 for the new, the notice's own refusals,
 // 10, 30. A refused apply changes no word.
-pub fn apply(old: &[u64], notice: &[u8], new: &mut [u64]) -> Applied
+#[tactic(auto, unfolding(history::specs::Applying::apply_notice, history::specs::Applying::apply_answer, history::specs::Applying::applied), using(book::proofs::Usable::usable_sound, notice::proofs::Checking::check_refused, crate::proofs::Answering::refuses_notice))]
+pub fn apply(old: &[u64], notice: &[u8], new: &mut [u64]) -> Result<Applied, Refusal>
     ensures value { result ≡ apply_answer old.now notice.now (length new.old) }
     ensures after { new.new ≡ applied old.now notice.now new.old }
 {
-    let unusable = book::book_refusal(old);
-    if unusable != 0 {
-        return refused(unusable);
-    }
+    book::check_book(old)?;
     if new.len() < book_words::HEADER_WORDS {
-        return refused(refusal::BOOK_TOO_SHORT);
+        return Err(Refusal::BookTooShort);
     }
-    match notice::check_notice(notice) {
-        Checked::Refused(e) => refused(e),
-        Checked::Notice(m) => apply_checked(old, notice, m, new),
-    }
-}
-
-fn refused(e: u64) -> Applied
-    ensures { result ≡ refused_apply e }
-{
-    Applied {
-        refusal: e,
-        entries: 0,
-        received: 0,
-        latest: 0,
-    }
+    let m = notice::check_notice(notice)?;
+    apply_checked(old, notice, m, new)
 }
 
 // Applies a notice that has been checked. Nothing is written until nothing can be refused.
-fn apply_checked(old: &[u64], notice: &[u8], m: Summary, new: &mut [u64]) -> Applied
-    requires { (sound old.now ≡ true) × (header_words ≤ length new.old) × (check_notice notice.now ≡ Notice m) }
+fn apply_checked(
+    old: &[u64],
+    notice: &[u8],
+    m: Summary,
+    new: &mut [u64],
+) -> Result<Applied, Refusal>
+    requires { (sound old.now ≡ true) × (header_words ≤ length new.old) × (check_notice notice.now ≡ Ok m) }
     ensures value { result ≡ apply_answer old.now notice.now (length new.old) }
     ensures after { new.new ≡ applied old.now notice.now new.old }
 {
     let header = book_words::header_of(old);
-    if m.received < header.received {
-        return refused(refusal::RECEIVED_EARLIER);
+    if m.header.received < header.received {
+        return Err(Refusal::ReceivedEarlier);
     }
     let plan = plan_of(m, header.period, header.latest);
-    let marks = country_marks::marks_for(notice, m);
+    let marks = country_marks::marks_for(notice, m.header);
     if !has_room(old, notice, m, plan, &marks, new.len()) {
-        return refused(refusal::BOOK_FULL);
+        return Err(Refusal::BookFull);
     }
     let done = fill(old, notice, m, plan, &marks, new);
-    Applied {
-        refusal: 0,
+    Ok(Applied {
         entries: done.count as u64,
-        received: m.received,
+        received: m.header.received,
         latest: done.latest,
-    }
+    })
 }
 
 // What a notice asks of every line and of the codes that it does not list.
+#[tactic(auto, unfolding(crate::specs::Plans::plan_of))]
 fn plan_of(m: Summary, period: u64, latest: u64) -> Plan
-    requires { (m.received ≤ last_received_day) × (period ≤ most_period) }
+    requires { (m.header.received ≤ last_received_day) × (period ≤ most_period) }
     ensures { result ≡ plan_of m period latest }
 {
-    let floor = m.received + period;
-    let wanted = effect::later(m.received, m.earliest);
-    if m.kind == notice_header::REPLACEMENT {
-        return Plan {
-            kind: m.kind,
-            country: m.country,
-            received: m.received,
-            floor,
-            noticed: true,
-            closing: effect::later(wanted, floor),
-        };
-    }
+    let floor = m.header.received + period;
+    let wanted = m.header.received.max(m.earliest);
+    let replaces = matches!(m.header.kind, Kind::Replacement(_));
     Plan {
-        kind: m.kind,
-        country: m.country,
-        received: m.received,
+        kind: m.header.kind,
+        received: m.header.received,
         floor,
-        noticed: wanted < latest,
-        closing: floor,
+        noticed: replaces || wanted < latest,
+        closing: if replaces { wanted.max(floor) } else { floor },
     }
 }
 
@@ -112,15 +93,23 @@ fn has_room(
     marks: &[u8; 1000],
     len: usize,
 ) -> bool
-    requires { m.lines ≤ most_lines }
-    ensures { result ≡ leb (length (merged_by old.now plan marks.now (lines_at m.lines notice.now m.start))) (held len) }
+    requires { m.header.lines ≤ most_lines }
+    ensures { result ≡ leb (length (merged_by old.now plan marks.now (lines_at m.header.lines notice.now m.header.start))) (held len) }
 {
     let most = book_words::entries_held(len);
-    if (book::headed_count(old) as u64) * 2 + m.lines <= most as u64 {
+    if (book::headed_count(old) as u64) * 2 + m.header.lines <= most as u64 {
         return true;
     }
     let mut none = [0u64; 1];
-    let counted = merge::merge(old, notice, m.start, m.lines, plan, marks, &mut none[..]);
+    let counted = merge::merge(
+        old,
+        notice,
+        m.header.start,
+        m.header.lines,
+        plan,
+        marks,
+        &mut none[..],
+    );
     counted.count <= most
 }
 
@@ -133,12 +122,20 @@ fn fill(
     marks: &[u8; 1000],
     new: &mut [u64],
 ) -> Merged
-    requires { (m.lines ≤ most_lines) × (header_words + length (merged_by old.now plan marks.now (lines_at m.lines notice.now m.start)) * entry_words ≤ length new.old) }
-    ensures value { (result.count ≡ length (merged_by old.now plan marks.now (lines_at m.lines notice.now m.start))) × (result.latest ≡ latest_by plan (found_in old.now) (latest_of old.now) (lines_at m.lines notice.now m.start)) }
-    ensures after { new.new ≡ book_of (length new.old) (period_of old.now) m.received
-        (latest_by plan (found_in old.now) (latest_of old.now) (lines_at m.lines notice.now m.start)) (merged_by old.now plan marks.now (lines_at m.lines notice.now m.start)) }
+    requires { (m.header.lines ≤ most_lines) × (header_words + length (merged_by old.now plan marks.now (lines_at m.header.lines notice.now m.header.start)) * entry_words ≤ length new.old) }
+    ensures value { (result.count ≡ length (merged_by old.now plan marks.now (lines_at m.header.lines notice.now m.header.start))) × (result.latest ≡ latest_by plan (found_in old.now) (latest_of old.now) (lines_at m.header.lines notice.now m.header.start)) }
+    ensures after { new.new ≡ book_of (length new.old) (period_of old.now) m.header.received
+        (latest_by plan (found_in old.now) (latest_of old.now) (lines_at m.header.lines notice.now m.header.start)) (merged_by old.now plan marks.now (lines_at m.header.lines notice.now m.header.start)) }
 {
-    let done = merge::merge(old, notice, m.start, m.lines, plan, marks, new);
+    let done = merge::merge(
+        old,
+        notice,
+        m.header.start,
+        m.header.lines,
+        plan,
+        marks,
+        new,
+    );
     book_words::clear(
         new,
         book_words::HEADER_WORDS + done.count * book_words::ENTRY_WORDS,
@@ -147,7 +144,7 @@ fn fill(
     let header = Header {
         count: done.count as u64,
         period: before.period,
-        received: m.received,
+        received: m.header.received,
         latest: done.latest,
     };
     book_words::write_header(new, header);

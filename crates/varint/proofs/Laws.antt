@@ -7,35 +7,36 @@ use Prim.Native.Nat.{ℕ, ◌+◌, ◌^◌, ◌≤◌, ◌<◌}
 use native.Mathlib.Omega.{arith}
 use lib.ListN.{length, get_or, drop, length-drop}
 use lib.Seq.{drop-drop, get_or-drop}
-use Rattle.refusal.specs.Refusal.{bytes_end, not_shortest}
-use Rattle.varint.specs.declared.Number.{Number}
-use Rattle.varint.specs.declared.Number.TheVariants.{Value, Refused}
 use Rattle.varint.specs.Reading.{groups, from, read_number}
 use Rattle.varint.proofs.Values.{front, within}
 use Rattle.varint.proofs.Refusals.{front_refused, refused, ended, ended_refused, longer, longer_refused}
+use Rattle.refusal.specs.declared.Refusal.TheVariants.{BytesEnd, NotShortest}
+use Rattle.refusal.specs.Steps.{Read, ok_at}
+use Rattle.refusal.specs.declared.Refusal.{Refusal}
+use Rattle.std.proofs.Common.{Ok, Err}
 
 -- Reading moves on, and stays within the bytes.
-pub spans : (s : List ℕ) (at n end : ℕ) → read_number s at ≡ Value n end → (at < end) × (end ≤ length s)
+pub spans : (s : List ℕ) (at n end : ℕ) → read_number s at ≡ ok_at n end → (at < end) × (end ≤ length s)
 spans s at n end e =
     let p = front s at n end e in
     let w = within 9 (drop at s) n p.0 p.1 in
     omega (arith, length-drop at s)
 
 -- A number that is read is below 2 to the power 63.
-pub below : (s : List ℕ) (at n end : ℕ) → read_number s at ≡ Value n end → n < 2 ^ 63
+pub below : (s : List ℕ) (at n end : ℕ) → read_number s at ≡ ok_at n end → n < 2 ^ 63
 below s at n end e = let p = front s at n end e in (within 9 (drop at s) n p.0 p.1).less
 
 -- There are two refusals.
-pub refusals : (s : List ℕ) (at e : ℕ) → read_number s at ≡ Refused e → (e ≡ bytes_end) ⊎ (e ≡ not_shortest)
+pub refusals : (s : List ℕ) (at : ℕ) (e : Refusal) → read_number s at ≡ Err e → (e ≡ BytesEnd) ⊎ (e ≡ NotShortest)
 refusals s at e p = refused 9 (drop at s) e (front_refused s at e p)
 
 -- Refusal 1, exactly: fewer than nine bytes are left, and each has its top bit set.
 pub bytes_end_law : (s : List ℕ) (at : ℕ)
-    → (read_number s at ≡ Refused bytes_end) ↔ ((length s < at + 9) × ((i : ℕ) → at + i < length s → 128 ≤ get_or s (at + i) 0))
+    → (read_number s at ≡ Err BytesEnd) ↔ ((length s < at + 9) × ((i : ℕ) → at + i < length s → 128 ≤ get_or s (at + i) 0))
 unfolding read_number from
 bytes_end_law s at = (
   λ p.
-      let o = ended 9 (drop at s) (front_refused s at bytes_end p) in
+      let o = ended 9 (drop at s) (front_refused s at BytesEnd p) in
       (omega (arith, length-drop at s), λ i l. rw (get_or-drop at s i 0) at (o.1 i (omega (arith, length-drop at s)))),
   λ o.
       ap (from at)
@@ -46,14 +47,14 @@ bytes_end_law s at = (
 
 -- Refusal 2, exactly: the first nine bytes have their top bit set, or the first byte that has not is 0 and not the only one.
 pub not_shortest_law : (s : List ℕ) (at : ℕ)
-    → (read_number s at ≡ Refused not_shortest)
+    → (read_number s at ≡ Err NotShortest)
     ↔ ((j : ℕ)
     × ((i : ℕ) → i < j → 128 ≤ get_or s (at + i) 0)
     × ((j ≡ 9) ⊎ ((0 < j) × (j < 9) × (at + j < length s) × (get_or s (at + j) 0 ≡ 0))))
 unfolding read_number from
 not_shortest_law s at = (
   λ p.
-      let o = longer 9 (drop at s) (front_refused s at not_shortest p) in (
+      let o = longer 9 (drop at s) (front_refused s at NotShortest p) in (
         o.0,
         λ i l. rw (get_or-drop at s i 0) at (o.1.0 i l),
         ⊎_elim inl (λ e. inr (e.0, e.1, omega (arith, length-drop at s), rw (get_or-drop at s o.0 0) at e.3)) o.1.1,
@@ -71,6 +72,6 @@ pub part : (s : List ℕ) (k at : ℕ) → read_number s (k + at) ≡ from k (re
 unfolding read_number
 part s k at = rw (drop-drop at k s) (go (groups 9 (drop (k + at) s)))
   where
-    go : (x : Number) → from (k + at) x ≡ from k (from at x)
-    go (Value n size) = ap (Value n) (omega arith)
-    go (Refused e) = refl
+    go : (x : Read ℕ) → from (k + at) x ≡ from k (from at x)
+    go (Ok (n, size)) = ap (ok_at n) (omega arith)
+    go (Err e) = refl

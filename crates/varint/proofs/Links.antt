@@ -1,18 +1,15 @@
 -- From a rule to one of its cases, a link at a time. Assumes nothing.
-use mathlib.Core.Path.{◌≡◌, refl, ap}
-use mathlib.Core.Bool.{Bool, true, false, cond}
-use Prim.Native.Nat.{ℕ}
-use Rattle.varint.specs.declared.Number.{Number}
-use Rattle.varint.specs.declared.Number.TheVariants.{Value, Refused}
-use Rattle.varint.specs.Ranged.{and_then}
+use Rattle.std.proofs.Common.{◌≡◌, refl, ap, Bool, true, false, cond, Result, Ok, Err}
+use Rattle.refusal.specs.Steps.{◌>>=◌}
+
+module _ {A B E : Type 0} where
+  pub on_value : {r : Result A E} {x : A} (f : A → Result B E) → r ≡ Ok x → (r >>= f) ≡ f x
+  on_value f e = ap (λ (r : Result A E). r >>= f) e
+
+  pub on_refused : {r : Result A E} {e : E} (f : A → Result B E) → r ≡ Err e → (r >>= f) ≡ Err e
+  on_refused f e = ap (λ (r : Result A E). r >>= f) e
 
 module _ {X : Type 0} where
-  pub on_value : {r : Number} {n at : ℕ} (f : ℕ → ℕ → X) (g : ℕ → X) → r ≡ Value n at → and_then r f g ≡ f n at
-  on_value f g e = ap (λ (r : Number). and_then r f g) e
-
-  pub on_refused : {r : Number} {n : ℕ} (f : ℕ → ℕ → X) (g : ℕ → X) → r ≡ Refused n → and_then r f g ≡ g n
-  on_refused f g e = ap (λ (r : Number). and_then r f g) e
-
   pub yes_case : {t : Bool} (a b : X) → t ≡ true → cond t a b ≡ a
   yes_case a b e = ap (λ (t : Bool). cond t a b) e
 

@@ -10,76 +10,76 @@ use borrow.Author.Tests.{lt-ltb, le-ltb, eq-eqb, ne_eqb, eqb-true, eqb-false}
 use lib.ListN.{length, get_or, drop, drop_of_length-le}
 use lib.Seq.{drop-cons}
 use lib.Dec.{eqb, ltb, lit<}
-use Rattle.refusal.specs.Refusal.{bytes_end, not_shortest}
-use Rattle.varint.specs.declared.Number.{Number}
-use Rattle.varint.specs.declared.Number.TheVariants.{Value, Refused}
 use Rattle.varint.specs.Reading.{above, groups, from, read_number}
+use Rattle.refusal.specs.declared.Refusal.TheVariants.{BytesEnd, NotShortest}
+use Rattle.refusal.specs.Steps.{Read, ok_at}
+use Rattle.std.proofs.Common.{Ok, Err}
 
 -- What the bytes ahead of `at` read as, put above the groups before them, which come to `sum` in units below `place`.
-unfoldable pub onto : ℕ → ℕ → ℕ → Number → Number
-onto place sum at (Value n size) =
-    cond (eqb n 0) (cond (eqb place 1) (Value (sum + place * n) (at + size)) (Refused not_shortest)) (Value (sum + place * n) (at + size))
-onto place sum at (Refused e) = Refused e
+unfoldable pub onto : ℕ → ℕ → ℕ → Read ℕ → Read ℕ
+onto place sum at (Ok (n, size)) =
+    cond (eqb n 0) (cond (eqb place 1) (ok_at (sum + place * n) (at + size)) (Err NotShortest)) (ok_at (sum + place * n) (at + size))
+onto place sum at (Err e) = Err e
 
 -- with no group before, it is the rule's reading
-pub begins : (at : ℕ) (x : Number) → from at x ≡ onto 1 0 at x
+pub begins : (at : ℕ) (x : Read ℕ) → from at x ≡ onto 1 0 at x
 unfolding from onto
-begins at (Value n size) = go (eqb n 0)
+begins at (Ok (n, size)) = go (eqb n 0)
   where
-    go : (t : Bool) → Value n (at + size) ≡ cond t (Value (0 + 1 * n) (at + size)) (Value (0 + 1 * n) (at + size))
-    go true = ap (λ (v : ℕ). Value v (at + size)) (omega arith)
-    go false = ap (λ (v : ℕ). Value v (at + size)) (omega arith)
-begins at (Refused e) = refl
+    go : (t : Bool) → ok_at n (at + size) ≡ cond t (ok_at (0 + 1 * n) (at + size)) (ok_at (0 + 1 * n) (at + size))
+    go true = ap (λ (v : ℕ). ok_at v (at + size)) (omega arith)
+    go false = ap (λ (v : ℕ). ok_at v (at + size)) (omega arith)
+begins at (Err e) = refl
 
 -- a group passes from the bytes ahead to those before
-pub passes : (place sum at low : ℕ) (x : Number) → 0 < place
+pub passes : (place sum at low : ℕ) (x : Read ℕ) → 0 < place
     → onto place sum at (above low x) ≡ onto (place * 128) (sum + place * low) (at + 1) x
 unfolding onto above
-passes place sum at low (Value n size) h = go (eqb n 0) refl
+passes place sum at low (Ok (n, size)) h = go (eqb n 0) refl
   where
     go : (t : Bool) → eqb n 0 ≡ t
-        → onto place sum at (above low (Value n size)) ≡ onto (place * 128) (sum + place * low) (at + 1) (Value n size)
+        → onto place sum at (above low (ok_at n size)) ≡ onto (place * 128) (sum + place * low) (at + 1) (ok_at n size)
     go true e = simp (e, ne_eqb (place * 128) 1 (λ p. omega arith))
     go false e =
         simp (e, ne_eqb (low + 128 * n) 0 (λ p. eqb-false n 0 e (omega arith)))
-        (ap₂ Value (omega (arith, mul-add place low (128 * n), mul_assoc place 128 n)) (omega arith))
-passes place sum at low (Refused e) h = refl
+        (ap₂ ok_at (omega (arith, mul-add place low (128 * n), mul_assoc place 128 n)) (omega arith))
+passes place sum at low (Err e) h = refl
 
 -- The exits of the loop and its next turn, from what its invariant says.
-module _ {r : Number} (k place sum i : ℕ) (s : List ℕ) (reads : r ≡ onto place sum i (groups k (drop i s))) where
-  pub spent : k ≤ 0 → r ≡ Refused not_shortest
+module _ {r : Read ℕ} (k place sum at i : ℕ) (s : List ℕ) (reads : r ≡ onto place sum at (groups k (drop i s))) where
+  pub spent : k ≤ 0 → r ≡ Err NotShortest
   unfolding onto groups
   spent h = let z : k ≡ 0 = omega arith in reads ∙ rw z
 
-  pub ends : 0 < k → length s ≤ i → r ≡ Refused bytes_end
+  pub ends : 0 < k → length s ≤ i → r ≡ Err BytesEnd
   unfolding onto groups
   ends h l = let p : k ≡ suc (k - 1) = omega arith in reads ∙ rw (drop_of_length-le s l, p)
 
   group : (b : ℕ) → 0 < k → i < length s → b ≡ get_or s i 0
-      → r ≡ onto place sum i (cond (ltb b 128) (Value b 1) (above (b % 128) (groups (k - 1) (drop (i + 1) s))))
+      → r ≡ onto place sum at (cond (ltb b 128) (ok_at b 1) (above (b % 128) (groups (k - 1) (drop (i + 1) s))))
   unfolding groups
   group b h l e =
       let p : k ≡ suc (k - 1) = omega arith in
       let q : groups k (drop i s) ≡ groups (suc (k - 1)) (drop i s) = ap (λ (j : ℕ). groups j (drop i s)) p in
       reads ∙ rw (q, drop-cons s i 0 l, add-one, e)
 
-  pub last : (b : ℕ) → 0 < k → i < length s → b ≡ get_or s i 0 → b < 128 → (b ≡ 0 → place ≡ 1) → r ≡ Value (sum + place * b) (i + 1)
+  pub last : (b : ℕ) → 0 < k → i < length s → b ≡ get_or s i 0 → b < 128 → (b ≡ 0 → place ≡ 1) → r ≡ ok_at (sum + place * b) (at + 1)
   unfolding onto
   last b h l e u one = group b h l e ∙ simp (lt-ltb _ _ u) (go (eqb b 0) refl)
     where
-      go : (t : Bool) → eqb b 0 ≡ t → onto place sum i (Value b 1) ≡ Value (sum + place * b) (i + 1)
+      go : (t : Bool) → eqb b 0 ≡ t → onto place sum at (ok_at b 1) ≡ ok_at (sum + place * b) (at + 1)
       go true z = simp (z, eq-eqb place 1 (one (eqb-true b 0 z)))
       go false z = simp z
 
-  pub longer : (b : ℕ) → 0 < k → i < length s → b ≡ get_or s i 0 → b ≡ 0 → (place ≡ 1 → ⊥) → r ≡ Refused not_shortest
+  pub longer : (b : ℕ) → 0 < k → i < length s → b ≡ get_or s i 0 → b ≡ 0 → (place ≡ 1 → ⊥) → r ≡ Err NotShortest
   unfolding onto
   longer b h l e z ne = group b h l e ∙ simp (z, ne_eqb place 1 ne)
 
   pub next : (b : ℕ) → 0 < k → i < length s → b ≡ get_or s i 0 → 128 ≤ b → b < 256 → 0 < place
-      → r ≡ onto (place * 128) (sum + place * (b - 128)) (i + 1) (groups (k - 1) (drop (i + 1) s))
+      → r ≡ onto (place * 128) (sum + place * (b - 128)) (at + 1) (groups (k - 1) (drop (i + 1) s))
   next b h l e u w f =
       let low : b % 128 ≡ b - 128 = omega arith in
-      group b h l e ∙ simp (le-ltb _ _ u) (passes place sum i (b % 128) _ f ∙ rw low)
+      group b h l e ∙ simp (le-ltb _ _ u) (passes place sum at (b % 128) _ f ∙ rw low)
 
 -- The arithmetic of a turn: the place and the sum stay within nine groups.
 pub record Room (place left sum v : ℕ) : Type 0 where
@@ -99,8 +99,8 @@ room place left sum v h e l u =
     }
 
 -- one byte below 128 is a number
-pub one_group : (s : List ℕ) (at b : ℕ) → at < length s → b ≡ get_or s at 0 → b < 128 → read_number s at ≡ Value b (at + 1)
+pub one_group : (s : List ℕ) (at b : ℕ) → at < length s → b ≡ get_or s at 0 → b < 128 → read_number s at ≡ ok_at b (at + 1)
 unfolding read_number
 one_group s at b l e u =
-    last 9 1 0 at s (begins at (groups 9 (drop at s))) b (omega arith) l e u (λ z. refl)
-    ∙ ap (λ (v : ℕ). Value v (at + 1)) (omega arith)
+    last 9 1 0 at at s (begins at (groups 9 (drop at s))) b (omega arith) l e u (λ z. refl)
+    ∙ ap (λ (v : ℕ). ok_at v (at + 1)) (omega arith)

@@ -9,32 +9,34 @@ use native.Mathlib.Omega.{arith}
 use lib.ListN.{length, get_or, drop}
 use borrow.Author.Tests.{eqb-true}
 use lib.Dec.{eqb}
-use Rattle.refusal.specs.Refusal.{bytes_end, not_shortest}
-use Rattle.varint.specs.declared.Number.{Number}
-use Rattle.varint.specs.declared.Number.TheVariants.{Value, Refused}
 use Rattle.varint.specs.Reading.{above, groups, from, read_number}
-use Rattle.varint.proofs.Groups.{apart, read_last, read_on, above_so}
+use Rattle.varint.proofs.Groups.{read_last, read_on, above_so}
+use Rattle.refusal.specs.declared.Refusal.TheVariants.{BytesEnd, NotShortest}
+use Rattle.refusal.proofs.ReadParts.{apart, same_read}
+use Rattle.refusal.specs.Steps.{Read, ok_at}
+use Rattle.std.proofs.Common.{Ok, Err}
+use Rattle.refusal.specs.declared.Refusal.{Refusal}
 
 -- The refusal at a position is that at the front of what is left.
-pub front_refused : (s : List ℕ) (at e : ℕ) → read_number s at ≡ Refused e → groups 9 (drop at s) ≡ Refused e
+pub front_refused : (s : List ℕ) (at : ℕ) (e : Refusal) → read_number s at ≡ Err e → groups 9 (drop at s) ≡ Err e
 unfolding read_number from
 front_refused s at e p = go (groups 9 (drop at s)) p
   where
-    go : (x : Number) → from at x ≡ Refused e → x ≡ Refused e
-    go (Value m size) q = absurd (apart q)
-    go (Refused r) q = q
+    go : (x : Read ℕ) → from at x ≡ Err e → x ≡ Err e
+    go (Ok (m, size)) q = absurd (apart q)
+    go (Err r) q = q
 
 -- A group passes a refusal on, or refuses by itself what is not shortest.
-above_refused : (low e : ℕ) (x : Number) → above low x ≡ Refused e → (x ≡ Refused e) ⊎ (e ≡ not_shortest)
+above_refused : (low : ℕ) (e : Refusal) (x : Read ℕ) → above low x ≡ Err e → (x ≡ Err e) ⊎ (e ≡ NotShortest)
 unfolding above
-above_refused low e (Value n size) p = go (eqb n 0) p
+above_refused low e (Ok (n, size)) p = go (eqb n 0) p
   where
-    go : (t : Bool) → cond t (Refused not_shortest) (Value (low + 128 * n) (size + 1)) ≡ Refused e → (Value n size ≡ Refused e) ⊎ (e ≡ not_shortest)
+    go : (t : Bool) → cond t (Err NotShortest) (ok_at (low + 128 * n) (size + 1)) ≡ Err e → (ok_at n size ≡ Err e) ⊎ (e ≡ NotShortest)
     go true q = inr (cc)
     go false q = absurd (apart q)
-above_refused low e (Refused r) p = inl p
+above_refused low e (Err r) p = inl p
 
-pub refused : (k : ℕ) (s : List ℕ) (e : ℕ) → groups k s ≡ Refused e → (e ≡ bytes_end) ⊎ (e ≡ not_shortest)
+pub refused : (k : ℕ) (s : List ℕ) (e : Refusal) → groups k s ≡ Err e → (e ≡ BytesEnd) ⊎ (e ≡ NotShortest)
 unfolding groups
 refused zero s e p = inr (cc)
 refused (suc k) [] e p = inl (cc)
@@ -52,19 +54,19 @@ tops_cons b n s h f zero l = h
 tops_cons b n s h f (suc i) l = f i (omega arith)
 
 -- The bytes end: they are fewer than the groups, and each has its top bit set.
-pub ended : (k : ℕ) (s : List ℕ) → groups k s ≡ Refused bytes_end → (length s < k) × ((i : ℕ) → i < length s → 128 ≤ get_or s i 0)
+pub ended : (k : ℕ) (s : List ℕ) → groups k s ≡ Err BytesEnd → (length s < k) × ((i : ℕ) → i < length s → 128 ≤ get_or s i 0)
 unfolding groups
-ended zero s p = absurd (let z : ◌≡◌ {A = ℕ} 1 2 = cc in omega arith)
+ended zero s p = absurd (cc)
 ended (suc k) [] p = (omega arith, λ i l. absurd (omega arith))
 ended (suc k) (b ∷ s) p = elim (dec_le 128 b) [
-  | yes h ↦ elim (above_refused (b % 128) bytes_end (groups k s) (sym (read_on k b s h) ∙ p)) [
+  | yes h ↦ elim (above_refused (b % 128) BytesEnd (groups k s) (sym (read_on k b s h) ∙ p)) [
     | inl q ↦ let r = ended k s q in (omega arith, tops_cons b _ s h r.1)
-    | inr q ↦ absurd (omega arith)
+    | inr q ↦ absurd (cc)
   ]
   | no h ↦ absurd (apart (sym (read_last k b s (omega arith)) ∙ p))
 ]
 
-pub ended_refused : (k : ℕ) (s : List ℕ) → length s < k → ((i : ℕ) → i < length s → 128 ≤ get_or s i 0) → groups k s ≡ Refused bytes_end
+pub ended_refused : (k : ℕ) (s : List ℕ) → length s < k → ((i : ℕ) → i < length s → 128 ≤ get_or s i 0) → groups k s ≡ Err BytesEnd
 unfolding groups above
 ended_refused zero s l f = absurd (omega arith)
 ended_refused (suc k) [] l f = refl
@@ -75,31 +77,31 @@ ended_refused (suc k) (b ∷ s) l f =
 abbrev pub Longer : ℕ → List ℕ → ℕ → Type 0
 Longer k s j = ((i : ℕ) → i < j → 128 ≤ get_or s i 0) × ((j ≡ k) ⊎ ((0 < j) × (j < k) × (j < length s) × (get_or s j 0 ≡ 0)))
 
-zero_first : (k : ℕ) (s : List ℕ) (size : ℕ) → groups k s ≡ Value 0 size → (0 < k) × (0 < length s) × (get_or s 0 0 ≡ 0)
+zero_first : (k : ℕ) (s : List ℕ) (size : ℕ) → groups k s ≡ ok_at 0 size → (0 < k) × (0 < length s) × (get_or s 0 0 ≡ 0)
 unfolding groups
 zero_first zero s size p = absurd (apart (sym p))
 zero_first (suc k) [] size p = absurd (apart (sym p))
 zero_first (suc k) (b ∷ s) size p = elim (dec_le 128 b) [
   | yes h ↦ let a = above_so (b % 128) 0 size (groups k s) (sym (read_on k b s h) ∙ p) in absurd (omega arith)
   | no h ↦
-      let q : Value b 1 ≡ Value 0 size = sym (read_last k b s (omega arith)) ∙ p in
-      (omega arith, omega arith, cc)
+      let q : ok_at b 1 ≡ ok_at 0 size = sym (read_last k b s (omega arith)) ∙ p in
+      (omega arith, omega arith, (same_read q).0)
 ]
 
-above_longer : (low : ℕ) (x : Number) → above low x ≡ Refused not_shortest → (x ≡ Refused not_shortest) ⊎ ((size : ℕ) × (x ≡ Value 0 size))
+above_longer : (low : ℕ) (x : Read ℕ) → above low x ≡ Err NotShortest → (x ≡ Err NotShortest) ⊎ ((size : ℕ) × (x ≡ ok_at 0 size))
 unfolding above
-above_longer low (Value n size) p = go (eqb n 0) refl p
+above_longer low (Ok (n, size)) p = go (eqb n 0) refl p
   where
-    go : (t : Bool) → eqb n 0 ≡ t → cond t (Refused not_shortest) (Value (low + 128 * n) (size + 1)) ≡ Refused not_shortest
-        → (Value n size ≡ Refused not_shortest) ⊎ ((z : ℕ) × (Value n size ≡ Value 0 z))
-    go true q r = inr (size, ap (λ (v : ℕ). Value v size) (eqb-true n 0 q))
+    go : (t : Bool) → eqb n 0 ≡ t → cond t (Err NotShortest) (ok_at (low + 128 * n) (size + 1)) ≡ Err NotShortest
+        → (ok_at n size ≡ Err NotShortest) ⊎ ((z : ℕ) × (ok_at n size ≡ ok_at 0 z))
+    go true q r = inr (size, ap (λ (v : ℕ). ok_at v size) (eqb-true n 0 q))
     go false q r = absurd (apart r)
-above_longer low (Refused e) p = inl p
+above_longer low (Err e) p = inl p
 
-pub longer : (k : ℕ) (s : List ℕ) → groups k s ≡ Refused not_shortest → (j : ℕ) × Longer k s j
+pub longer : (k : ℕ) (s : List ℕ) → groups k s ≡ Err NotShortest → (j : ℕ) × Longer k s j
 unfolding groups
 longer zero s p = (0, (λ i l. absurd (omega arith), inl refl))
-longer (suc k) [] p = absurd (let z : ◌≡◌ {A = ℕ} 1 2 = cc in omega arith)
+longer (suc k) [] p = absurd (cc)
 longer (suc k) (b ∷ s) p = elim (dec_le 128 b) [
   | yes h ↦ elim (above_longer (b % 128) (groups k s) (sym (read_on k b s h) ∙ p)) [
     | inl q ↦
@@ -117,13 +119,13 @@ longer (suc k) (b ∷ s) p = elim (dec_le 128 b) [
   | no h ↦ absurd (apart (sym (read_last k b s (omega arith)) ∙ p))
 ]
 
-zero_next : (low k : ℕ) (s : List ℕ) → 0 < k → 0 < length s → get_or s 0 0 ≡ 0 → above low (groups k s) ≡ Refused not_shortest
+zero_next : (low k : ℕ) (s : List ℕ) → 0 < k → 0 < length s → get_or s 0 0 ≡ 0 → above low (groups k s) ≡ Err NotShortest
 unfolding groups above
 zero_next low zero s h l e = absurd (omega arith)
 zero_next low (suc k) [] h l e = absurd (omega arith)
 zero_next low (suc k) (b ∷ s) h l e = rw e
 
-pub longer_refused : (k : ℕ) (s : List ℕ) (j : ℕ) → Longer k s j → groups k s ≡ Refused not_shortest
+pub longer_refused : (k : ℕ) (s : List ℕ) (j : ℕ) → Longer k s j → groups k s ≡ Err NotShortest
 unfolding groups above
 longer_refused zero s j o = refl
 longer_refused (suc k) [] j o = elim o.1 [

@@ -1,25 +1,21 @@
 -- A number and what follows it (document 01, "Notice layout"): what its value may be, and the rest of the reading.
-use Rattle.std.specs.Prelude.{◌≡◌, refl, cond, ◌&&◌, List, [], ◌∷◌, ℕ, leb}
-use Rattle.refusal.specs.Refusal.{out_of_range}
+use Rattle.std.specs.Prelude.{◌≡◌, refl, cond, ◌&&◌, List, [], ◌∷◌, ℕ, leb, Err}
+use Rattle.refusal.specs.Steps.{◌>>=◌, Read, ok_at}
 use Rattle.varint.specs.Reading.{read_number}
-use Rattle.varint.specs.declared.Number.{Number}
-use Rattle.varint.specs.declared.Number.TheVariants.{Value, Refused}
-
--- What follows a number: the rest of the reading, from the number and the position after it; a refusal is handed on.
-abbrev pub and_then : {X : Type 0} → Number → (ℕ → ℕ → X) → (ℕ → X) → X
-and_then (Value n at) f g = f n at
-and_then (Refused e) f g = g e
+use Rattle.refusal.specs.declared.Refusal.TheVariants.{BytesEnd, NotShortest, OutOfRange}
 
 -- A number from least to most, else refusal 4.
-abbrev pub ranged : ℕ → ℕ → ℕ → ℕ → Number
-ranged least most n at = cond (leb least n && leb n most) (Value n at) (Refused out_of_range)
+abbrev pub ranged : ℕ → ℕ → ℕ → ℕ → Read ℕ
+ranged least most n at = cond (leb least n && leb n most) (ok_at n at) (Err OutOfRange)
 
 -- What was read, held to the range: a refusal stays what it is.
-abbrev pub in_range : Number → ℕ → ℕ → Number
-in_range read least most = and_then read (ranged least most) Refused
+abbrev pub in_range : Read ℕ → ℕ → ℕ → Read ℕ
+in_range read least most = do
+  (n, at) ← read
+  ranged least most n at
 
 -- The number at a position, from least to most.
-unfoldable pub read_ranged : List ℕ → ℕ → ℕ → ℕ → Number
+unfoldable pub read_ranged : List ℕ → ℕ → ℕ → ℕ → Read ℕ
 read_ranged s at least most = in_range (read_number s at) least most
 
 bytes : List ℕ
@@ -34,6 +30,6 @@ edges :
     ∷ read_ranged (1 ∷ []) 1 1 15
     ∷ read_ranged (0x80 ∷ 0 ∷ []) 0 0 15
     ∷ []
-    ≡ Value 1 1 ∷ Value 15 2 ∷ Refused 4 ∷ Refused 4 ∷ Refused 1 ∷ Refused 2 ∷ []
+    ≡ ok_at 1 1 ∷ ok_at 15 2 ∷ Err OutOfRange ∷ Err OutOfRange ∷ Err BytesEnd ∷ Err NotShortest ∷ []
 unfolding bytes read_ranged read_number
 edges = refl

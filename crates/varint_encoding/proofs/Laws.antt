@@ -2,25 +2,26 @@
 -- Assumes nothing.
 use mathlib.Core.Path.{◌≡◌, ap, sym, ◌∙◌}
 use mathlib.Core.List.{List, [], ◌++◌, append_assoc}
-use Prim.Native.Nat.{ℕ, zero, suc, ◌+◌, ◌^◌, ◌≤◌, ◌<◌}
+use Prim.Native.Nat.{ℕ, zero, suc, ◌+◌, ◌*◌, ◌/◌, ◌^◌, max, ◌≤◌, ◌<◌}
 use native.Mathlib.Omega.{arith}
 use lib.ListN.{length, get_or, take, drop, take-append-drop}
 use lib.Seq.{drop-append_seam, drop-drop, get_or-drop}
-use Rattle.varint.specs.declared.Number.TheVariants.{Value}
 use Rattle.varint.specs.Reading.{from, read_number}
 use Rattle.varint_encoding.specs.Encoding.{encode}
-use Rattle.varint_encoding.proofs.Groups.{nine, some_byte, few_bytes, bytes_below, a_byte, back}
+use Rattle.varint_encoding.proofs.Groups.{nine, some_byte, few_bytes, bytes_below, bytes_by_top, a_byte, back}
 use Rattle.varint.proofs.Values.{front}
 use Rattle.varint_encoding.proofs.Standing.{stands}
+use Rattle.refusal.proofs.ReadParts.{same_read}
+use Rattle.refusal.specs.Steps.{ok_at}
 
 -- A number's bytes read as the number, wherever they stand.
 pub reads_back : (pre post : List ℕ) (n : ℕ) → n < 2 ^ 63
-    → read_number (pre ++ encode n ++ post) (length pre) ≡ Value n (length pre + length (encode n))
+    → read_number (pre ++ encode n ++ post) (length pre) ≡ ok_at n (length pre + length (encode n))
 unfolding read_number encode
 reads_back pre post n h = rw (append_assoc, drop-append_seam) (ap (from (length pre)) (back 8 n post h))
 
 -- A number that is read stands there in its one encoding.
-pub only_encoding : (s : List ℕ) (at n end : ℕ) → ((i : ℕ) → get_or s i 0 < 256) → read_number s at ≡ Value n end
+pub only_encoding : (s : List ℕ) (at n end : ℕ) → ((i : ℕ) → get_or s i 0 < 256) → read_number s at ≡ ok_at n end
     → (s ≡ take at s ++ encode n ++ drop end s) × (end ≡ at + length (encode n))
 only_encoding s at n end f e =
     let p = front s at n end e in
@@ -40,10 +41,16 @@ pub size_below : (k n : ℕ) → 0 < k → n < 128 ^ k → length (encode n) ≤
 size_below zero n h l = absurd (omega arith)
 size_below (suc k) n h l = rw nine (bytes_below 9 k n l)
 
+-- By its top bit: one byte for each seven bits that are begun.
+pub size_by_top : (n r : ℕ) → 2 ^ r ≤ max n 1 → max n 1 < 2 * 2 ^ r → n < 2 ^ 63 → length (encode n) ≡ r / 7 + 1
+size_by_top n r low high h = rw nine (bytes_by_top 8 n r h low high)
+
 -- Each of them is a byte.
 pub bytes : (n i : ℕ) → get_or (encode n) i 0 < 256
 bytes n i = rw nine (a_byte 9 n i)
 
 -- Two numbers have two encodings.
 pub injective : (m n : ℕ) → m < 2 ^ 63 → n < 2 ^ 63 → encode m ≡ encode n → m ≡ n
-injective m n h l e = let a = reads_back [] [] m h in let b = reads_back [] [] n l in cc
+injective m n h l e =
+    (same_read
+    (sym (reads_back [] [] m h) ∙ ap (λ (s : List ℕ). read_number (s ++ []) 0) e ∙ reads_back [] [] n l)).0

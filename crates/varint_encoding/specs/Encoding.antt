@@ -1,5 +1,5 @@
 -- The bytes of a number in groups of seven bits (document 01, "Notice layout").
-use Rattle.std.specs.Prelude.{◌≡◌, refl, Bool, cond, List, [], ◌∷◌, ℕ, zero, suc, ◌+◌, ◌/◌, ◌%◌, ◌^◌, length, ltb}
+use Rattle.std.specs.Prelude.{◌≡◌, refl, Bool, cond, Option, Some, None, List, [], ◌∷◌, ℕ, zero, suc, ◌+◌, ◌/◌, ◌%◌, ◌^◌, length, ltb}
 use Rattle.varint.specs.Reading.{most_groups}
 
 -- The groups of a number below 128 ^ k: lowest first, 128 added where another follows.
@@ -19,6 +19,10 @@ encodable n = ltb n (2 ^ 63)
 -- How many bytes a number takes; 0 where it has no encoding.
 unfoldable pub size_of : ℕ → ℕ
 size_of n = cond (encodable n) (length (encode n)) 0
+
+-- How many bytes a number takes, where it has an encoding.
+abbrev pub size_if_encodable : ℕ → Option ℕ
+size_if_encodable n = cond (encodable n) (Some (size_of n)) None
 
 -- P11 the other way round, and the edges of one, two and nine groups
 encoded : List (List ℕ)
@@ -42,3 +46,8 @@ sizes = size_of 0 ∷ size_of 128 ∷ size_of 0x7fff_ffff_ffff_ffff ∷ size_of 
 sizes_so : sizes ≡ 1 ∷ 2 ∷ 9 ∷ 0 ∷ []
 unfolding sizes size_of encode
 sizes_so = refl
+
+-- the largest number that has a size, and the least that has none
+edges : size_if_encodable 0x7fff_ffff_ffff_ffff ∷ size_if_encodable 0x8000_0000_0000_0000 ∷ [] ≡ Some 9 ∷ None ∷ []
+unfolding size_of encode
+edges = refl

@@ -3,25 +3,15 @@
 
 ghost use Rattle.std.specs.Prelude.{◌≡◌};
 ghost use Rattle.varint.specs.Reading.{read_number};
-ghost use Rattle.varint_reader.specs.Standing.{place_after, moved_on};
+ghost use Rattle.varint_reader.specs.Standing.{moved_on};
 
-use varint::Number;
+use refusal::Read;
 
 // The bytes, and the position of the next number in them.
 #[derive(Clone, Copy)]
 pub struct Reader<'a> {
     pub src: &'a [u8],
     pub at: usize,
-}
-
-// Where a reader stands once it has read at a position: after the number, or where it stood when nothing could be read.
-fn place_after(at: usize, read: Number) -> usize
-    ensures { result ≡ place_after at read }
-{
-    match read {
-        Number::Value(_, next) => next,
-        Number::Refused(_) => at,
-    }
 }
 
 impl<'a> Reader<'a> {
@@ -32,14 +22,13 @@ impl<'a> Reader<'a> {
         Reader { src, at: 0 }
     }
 
-    // The next number, or its refusal; the reader moves on to the place after the number.
-    pub fn next<'s>(&'s mut self) -> Number
+    // The next number, or its refusal; the reader moves on to the place after the number, and stays where nothing can be read.
+    pub fn next<'s>(&'s mut self) -> Read<u64>
         ensures { (result ≡ read_number self.old.src.now self.old.at)
             × (self.new ≡ moved_on self.old) }
     {
-        let at = self.at;
-        let read = varint::read_number(self.src, at);
-        self.at = place_after(at, read);
+        let read = varint::read_number(self.src, self.at);
+        self.at = read.map_or(self.at, |(_, next)| next);
         read
     }
 }

@@ -1,3 +1,2 @@
--- Laws on room, and what writing several numbers comes to.
-pub mod Room
+-- What writing several numbers comes to.
 pub mod Writes

@@ -1,23 +1,22 @@
 -- Writing several numbers one after the other (document 01, "Notice layout").
-use Rattle.std.specs.Prelude.{◌≡◌, refl, cond, List, [], ◌∷◌, ◌++◌, ℕ, ◌+◌, ◌^◌, length, take, drop, leb}
+use Rattle.std.specs.Prelude.{◌≡◌, refl, cond, List, [], ◌∷◌, ◌++◌, ℕ, ◌+◌, ◌^◌, Result, Ok, Err, length, take, drop, leb}
 use Rattle.varint_encoding.specs.Several.{encode_all, encodable_all}
-use Rattle.varint_writing.specs.declared.Written.{Written}
-use Rattle.varint_writing.specs.declared.Written.TheVariants.{UpTo, NoRoom, TooLarge}
+use Rattle.varint_writing.specs.declared.WriteError.{WriteError}
+use Rattle.varint_writing.specs.declared.WriteError.TheVariants.{NoRoom, TooLarge}
 
 -- What writing them at a position of a lent slice of so many bytes answers.
-unfoldable pub answer_all : ℕ → ℕ → List ℕ → Written
+unfoldable pub answer_all : ℕ → ℕ → List ℕ → Result ℕ WriteError
 unfolding encodable_all encode_all
 answer_all room at ns =
     cond (encodable_all ns)
-    (cond (leb (at + length (encode_all ns)) room) (UpTo (at + length (encode_all ns))) NoRoom)
-    TooLarge
+    (cond (leb (at + length (encode_all ns)) room) (Ok (at + length (encode_all ns))) (Err NoRoom))
+    (Err TooLarge)
 
 -- The bytes that an answer leaves: the numbers' in their place where they were written, else the bytes as they were.
-unfoldable pub left_all : Written → List ℕ → ℕ → List ℕ → List ℕ
+unfoldable pub left_all : Result ℕ WriteError → List ℕ → ℕ → List ℕ → List ℕ
 unfolding encode_all
-left_all (UpTo end) s at ns = take at s ++ encode_all ns ++ drop end s
-left_all NoRoom s at ns = s
-left_all TooLarge s at ns = s
+left_all (Ok end) s at ns = take at s ++ encode_all ns ++ drop end s
+left_all (Err e) s at ns = s
 
 -- The bytes that writing them at a position of a lent slice leaves.
 abbrev pub leaves_all : List ℕ → ℕ → List ℕ → List ℕ
@@ -31,7 +30,7 @@ answers :
     ∷ answer_all 4 1 (7 ∷ 300 ∷ 0 ∷ [])
     ∷ answer_all 0 0 (7 ∷ 2 ^ 63 ∷ [])
     ∷ []
-    ≡ UpTo 2 ∷ NoRoom ∷ UpTo 5 ∷ NoRoom ∷ TooLarge ∷ []
+    ≡ Ok 2 ∷ Err NoRoom ∷ Ok 5 ∷ Err NoRoom ∷ Err TooLarge ∷ []
 unfolding answer_all
 answers = refl
 

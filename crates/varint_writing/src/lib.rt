@@ -8,10 +8,9 @@ ghost use Rattle.varint_encoding.specs.Encoding.{encode};
 ghost use Rattle.varint_encoding.specs.Several.{encode_all, encodable_all};
 ghost use Rattle.varint_writing.specs.Writing.{answer_all, leaves_all};
 
-// What writing came to: the position after the last number, or why nothing was written.
-#[derive(Clone, Copy)]
-pub enum Written {
-    UpTo(usize),
+// Why nothing was written: there is no room for all of the numbers, or one is too large to have an encoding.
+#[derive(Clone, Copy, PartialEq, Eq)]
+pub enum WriteError {
     NoRoom,
     TooLarge,
 }
@@ -20,18 +19,17 @@ pub enum Written {
 fn fits(room: usize, at: usize, size: usize) -> bool
     ensures { result ≡ leb (at + size) room }
 {
-    if room < at {
-        return false;
-    }
-    size <= room - at
+    at <= room && size <= room - at
 }
 
 // Writes a number where there is room for it, and gives the position after it.
+#[tactic(auto, using(varint_encoding::proofs::Groups::single, varint_encoding::proofs::Groups::some_byte))]
 fn put_number(out: &mut [u8], at: usize, n: u64) -> usize
     requires { (n < 2 ^ 63) × (at + length (encode n) ≤ length out.old) }
     ensures value { result ≡ at + length (encode n) }
     ensures after { out.new ≡ sets out.old at (encode n) }
 {
+    // The value tells where its groups end: no index or iterator counts them.
     let mut m = n;
     let mut i = at;
     while 128 <= m {
@@ -44,16 +42,15 @@ fn put_number(out: &mut [u8], at: usize, n: u64) -> usize
 }
 
 // Writes several numbers one after the other where there is room for them, and gives the position after them.
+#[tactic(auto, using(crate::proofs::Writes::one_more))]
 fn put_numbers(out: &mut [u8], at: usize, numbers: &[u64]) -> usize
     requires { (encodable_all numbers.now ≡ true) × (at + length (encode_all numbers.now) ≤ length out.old) }
     ensures value { result ≡ at + length (encode_all numbers.now) }
     ensures after { out.new ≡ sets out.old at (encode_all numbers.now) }
 {
     let mut end = at;
-    let mut done: usize = 0;
-    while done < numbers.len() {
-        end = put_number(out, end, numbers[done]);
-        done += 1;
+    for &n in numbers {
+        end = put_number(out, end, n);
     }
     end
 }
@@ -62,39 +59,32 @@ fn put_numbers(out: &mut [u8], at: usize, numbers: &[u64]) -> usize
 fn are_encodable(numbers: &[u64]) -> bool
     ensures { result ≡ encodable_all numbers.now }
 {
-    let mut i: usize = 0;
-    while i < numbers.len() {
-        if varint_encoding::TOO_LARGE <= numbers[i] {
-            return false;
-        }
-        i += 1;
-    }
-    true
+    numbers.iter().all(|&n| n < varint_encoding::TOO_LARGE)
 }
 
 // Whether there is room from a position on for so many numbers, however large.
 fn is_ample(room: usize, at: usize, count: usize) -> bool
     ensures { result ≡ leb (at + most_groups * count) room }
 {
-    if room < at {
-        return false;
-    }
-    count <= (room - at) / (varint::MOST_GROUPS as usize)
+    at <= room && count <= (room - at) / varint::MOST_GROUPS
 }
 
-// Writes several numbers one after the other at a position of a lent slice. Where there is no room for all of them, or one is
-// too large, no byte changes.
-pub fn write_numbers(out: &mut [u8], at: usize, numbers: &[u64]) -> Written
+// Writes several numbers one after the other at a position of a lent slice, and gives the position after the last. Where there is
+// no room for all of them, or one is too large, no byte changes.
+#[tactic(auto, using(crate::proofs::Writes::fitting), unfolding(crate::specs::Writing::answer_all, crate::specs::Writing::left_all, varint_encoding::specs::Several::size_of_all))]
+pub fn write_numbers(out: &mut [u8], at: usize, numbers: &[u64]) -> Result<usize, WriteError>
     ensures value { result ≡ answer_all (length out.old) at numbers.now }
     ensures after { out.new ≡ leaves_all out.old at numbers.now }
 {
-    if !are_encodable(numbers) {
-        return Written::TooLarge;
-    }
-    if !is_ample(out.len(), at, numbers.len()) {
-        if !fits(out.len(), at, varint_encoding::numbers_size(numbers)) {
-            return Written::NoRoom;
+    if is_ample(out.len(), at, numbers.len()) {
+        if !are_encodable(numbers) {
+            return Err(WriteError::TooLarge);
+        }
+    } else {
+        let size = varint_encoding::numbers_size(numbers).ok_or(WriteError::TooLarge)?;
+        if !fits(out.len(), at, size) {
+            return Err(WriteError::NoRoom);
         }
     }
-    Written::UpTo(put_numbers(out, at, numbers))
+    Ok(put_numbers(out, at, numbers))
 }

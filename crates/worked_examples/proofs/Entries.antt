@@ -19,9 +19,11 @@ use Rattle.varint.specs.Ranged.{read_ranged}
 use Rattle.line_terms.specs.TermsRule.{read_increments, read_rate, read_terms}
 use Rattle.line_code.specs.CodeRule.{code_field, read_code}
 use Rattle.notice_line.specs.LineRule.{line_of, listed_field, read_listed, read_line}
-use Rattle.notice_header.specs.HeaderRule.{is_country_code, read_country, read_named, read_dated, read_header}
-use Rattle.notice.specs.NoticeRule.{Notice, notice}
+use Rattle.notice_header.specs.HeaderRule.{is_country_code, read_country, read_kind, read_dated, read_header}
+use Rattle.notice.specs.NoticeRule.{Notice}
 use Rattle.notice.specs.NoticeRule.{read_lines, read_notice}
+use Rattle.notice_header.specs.declared.Kind.TheVariants.{Partial, Update}
+use Rattle.std.proofs.Common.{Ok}
 use Rattle.notice_line.specs.declared.Line.{Line}
 use Rattle.book_words.specs.Layout.{entry}
 use Rattle.book.specs.Soundness.{sound_entries}
@@ -94,26 +96,26 @@ abbrev pub line234806 : Line
 line234806 = line_of k234806 (Open (rate 13000000) 1 1) 0
 
 abbrev pub n1 : Notice
-n1 = record { kind = 3; received = 100; country = 0; lines = line23480 ∷ [] }
+n1 = record { kind = Update; received = 100; lines = line23480 ∷ [] }
 
 abbrev pub n2 : Notice
-n2 = record { kind = 3; received = 100; country = 0; lines = line23480 ∷ line234806 ∷ [] }
+n2 = record { kind = Update; received = 100; lines = line23480 ∷ line234806 ∷ [] }
 
 abbrev pub n4 : Notice
-n4 = record { kind = 2; received = 110; country = 0; lines = line2348 ∷ [] }
+n4 = record { kind = Partial; received = 110; lines = line2348 ∷ [] }
 
-pub reads1 : read_notice p1 ≡ notice n1
-unfolding p1 read_notice read_header read_dated read_named read_country is_country_code read_lines read_line read_code code_field read_terms
+pub reads1 : read_notice p1 ≡ Ok n1
+unfolding p1 read_notice read_header read_dated read_kind read_country is_country_code read_lines read_line read_code code_field read_terms
     read_rate read_increments read_listed listed_field read_ranged read_number key digits is_code country price_of
 reads1 = refl
 
-pub reads2 : read_notice p2 ≡ notice n2
-unfolding p2 read_notice read_header read_dated read_named read_country is_country_code read_lines read_line read_code code_field read_terms
+pub reads2 : read_notice p2 ≡ Ok n2
+unfolding p2 read_notice read_header read_dated read_kind read_country is_country_code read_lines read_line read_code code_field read_terms
     read_rate read_increments read_listed listed_field read_ranged read_number key digits is_code country price_of
 reads2 = refl
 
-pub reads4 : read_notice p4 ≡ notice n4
-unfolding p4 read_notice read_header read_dated read_named read_country is_country_code read_lines read_line read_code code_field read_terms
+pub reads4 : read_notice p4 ≡ Ok n4
+unfolding p4 read_notice read_header read_dated read_kind read_country is_country_code read_lines read_line read_code code_field read_terms
     read_rate read_increments read_listed listed_field read_ranged read_number key digits is_code country price_of
 reads4 = refl
 

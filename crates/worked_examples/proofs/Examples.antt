@@ -4,8 +4,6 @@ use mathlib.Core.Path.{◌≡◌, refl, ap, ap₂, ◌∙◌}
 use mathlib.Core.List.{List, [], ◌∷◌}
 use Prim.Native.Nat.{ℕ}
 use Rattle.varint.specs.Reading.{read_number}
-use Rattle.varint.specs.declared.Number.{Number}
-use Rattle.varint.specs.declared.Number.TheVariants.{Value, Refused}
 use Rattle.dial_code.specs.Digits.{digits}
 use Rattle.dial_code.specs.Key.{key, digits_of_key}
 use Rattle.country_code.specs.CountryCode.{country, country_of_key}
@@ -15,16 +13,18 @@ use Rattle.rate.specs.OfferWord.{word_of}
 use Rattle.charging.specs.Charging.{charge_of}
 use Rattle.rate.specs.declared.Offer.{Offer}
 use Rattle.rate.specs.declared.Offer.TheVariants.{Closed, Open}
-use Rattle.rate.specs.declared.Priced.{Priced}
-use Rattle.rate.specs.declared.Priced.TheVariants as priced
-use Rattle.charging.specs.declared.Charged.{Charged}
-use Rattle.charging.specs.declared.Charged.TheVariants as charged
+use Rattle.rate.specs.declared.Price.{Price}
+use Rattle.rate.specs.declared.Price.TheVariants as price_is
 use Rattle.varint.specs.Ranged.{read_ranged}
 use Rattle.line_terms.specs.TermsRule.{read_increments, read_rate, read_terms}
 use Rattle.line_code.specs.CodeRule.{code_field, read_code}
 use Rattle.notice_line.specs.LineRule.{line_of, listed_field, read_listed, read_line}
-use Rattle.notice_header.specs.HeaderRule.{is_country_code, read_country, read_named, read_dated, read_header}
-use Rattle.notice.specs.NoticeRule.{Reading, notice}
+use Rattle.notice_header.specs.HeaderRule.{is_country_code, read_country, read_kind, read_dated, read_header}
+use Rattle.notice.specs.NoticeRule.{Reading}
+use Rattle.notice_header.specs.declared.Kind.{Kind}
+use Rattle.notice_header.specs.declared.Kind.TheVariants.{Partial, Update}
+use Rattle.charging.specs.Charging.{charged}
+use Rattle.charging.specs.declared.Charged.{Charged}
 use Rattle.notice.specs.NoticeRule.{read_lines, read_notice}
 use Rattle.notice_line.specs.declared.Line.{Line}
 use Rattle.book_words.specs.Layout.{entry}
@@ -37,6 +37,10 @@ use Rattle.history.specs.Machine.{known, words, answer_of}
 use Rattle.worked_examples.specs.Sent.{p1, p2, p2_alone, p4, p5_first, p5_second, p5_third, p6_first, p6_second, notices_of}
 use Rattle.worked_examples.proofs.Entries.{k2348, k23480, k234806, entries1, entries2, entries4}
 use Rattle.worked_examples.proofs.Entries.{p1_entries, p2_entries, p4_entries}
+use Rattle.refusal.specs.declared.Refusal.TheVariants.{NoOffer, NotShortest}
+use Rattle.refusal.specs.Steps.{Read, ok_at}
+use Rattle.refusal.specs.declared.Refusal.{Refusal}
+use Rattle.std.proofs.Common.{Result, Ok, Err, Option, Some}
 
 -- What an example tells: what bytes read as, the offer word of a code, the answer to a number, change days, what a call is
 -- charged, what a rate comes to, what a number in groups of seven bits is.
@@ -45,9 +49,9 @@ pub data Told : Type 0 where
   word : ℕ → Told
   found : Answer → Told
   changes : List Entry → Told
-  charge : Charged → Told
-  price : Priced → Told
-  number : Number → Told
+  charge : Result Charged Refusal → Told
+  price : Option Price → Told
+  number : Read ℕ → Told
 
 abbrev opened : ℕ → Offer
 opened r = Open (rate r) 1 1
@@ -66,8 +70,8 @@ answer_after notices ds day = answer_of 7 (notices_of notices) ds day
 unfoldable pub status_after : List (List ℕ) → ℕ → ℕ → Offer
 status_after notices k day = (known 7 (notices_of notices)).status k day
 
-abbrev sent : ℕ → ℕ → List Line → Reading
-sent kind received ls = notice (record { kind = kind; received = received; country = 0; lines = ls })
+abbrev sent : Kind → ℕ → List Line → Reading
+sent kind received ls = Ok (record { kind = kind; received = received; lines = ls })
 
 -- The change days after some notices: the entries of a book that holds them.
 abbrev changes_after : List (List ℕ) → List Entry
@@ -128,19 +132,19 @@ worked = worked_with (changes_after (p1 ∷ [])) (changes_after (p2 ∷ [])) (ch
 
 unfoldable pub expected : List Told
 expected =
-    reading (sent 3 100 (line_of k23480 (opened 9000000) 0 ∷ []))
+    reading (sent Update 100 (line_of k23480 (opened 9000000) 0 ∷ []))
     ∷ word 0
     ∷ word 589824000259
     ∷ changes (entry k23480 100 589824000259 ∷ [])
-    ∷ reading (sent 3 100 (line_of k23480 (opened 9000000) 0 ∷ line_of k234806 (opened 13000000) 0 ∷ []))
-    ∷ reading (sent 3 100 (line_of k234806 (opened 13000000) 0 ∷ []))
+    ∷ reading (sent Update 100 (line_of k23480 (opened 9000000) 0 ∷ line_of k234806 (opened 13000000) 0 ∷ []))
+    ∷ reading (sent Update 100 (line_of k234806 (opened 13000000) 0 ∷ []))
     ∷ found (answer k234806 (opened 13000000))
     ∷ changes (entry k23480 100 589824000259 ∷ entry k234806 100 851968000259 ∷ [])
     ∷ found (answer k23480 (opened 9000000))
     ∷ found (answer k234806 (opened 13000000))
     ∷ found (answer 0 Closed)
-    ∷ charge (charged.Refused 43)
-    ∷ reading (sent 2 110 (line_of k2348 (opened 8000000) 0 ∷ []))
+    ∷ charge (Err NoOffer)
+    ∷ reading (sent Partial 110 (line_of k2348 (opened 8000000) 0 ∷ []))
     ∷ found (answer k234806 (opened 13000000))
     ∷ found (answer k2348 (opened 8000000))
     ∷ changes
@@ -150,30 +154,30 @@ expected =
     ∷ entry k234806 100 851968000259
     ∷ entry k234806 117 0
     ∷ [])
-    ∷ reading (sent 3 10 (line_of k91 (opened 1000000) 0 ∷ []))
-    ∷ reading (sent 3 20 (line_of k91 (opened 2000000) 28 ∷ []))
-    ∷ reading (sent 3 26 (line_of k91 (opened 500000) 27 ∷ []))
+    ∷ reading (sent Update 10 (line_of k91 (opened 1000000) 0 ∷ []))
+    ∷ reading (sent Update 20 (line_of k91 (opened 2000000) 28 ∷ []))
+    ∷ reading (sent Update 26 (line_of k91 (opened 500000) 27 ∷ []))
     ∷ found (answer k91 (opened 1000000))
     ∷ found (answer k91 (opened 2000000))
     ∷ found (answer k91 (opened 2000000))
     ∷ found (answer k91 (opened 500000))
-    ∷ reading (sent 3 10 (line_of (key (7 ∷ 9 ∷ 0 ∷ 3 ∷ [])) (opened 4000000) 0 ∷ []))
-    ∷ reading (sent 3 20 (line_of (key (7 ∷ 9 ∷ [])) (opened 6000000) 0 ∷ []))
+    ∷ reading (sent Update 10 (line_of (key (7 ∷ 9 ∷ 0 ∷ 3 ∷ [])) (opened 4000000) 0 ∷ []))
+    ∷ reading (sent Update 20 (line_of (key (7 ∷ 9 ∷ [])) (opened 6000000) 0 ∷ []))
     ∷ found (answer (key (7 ∷ 9 ∷ 0 ∷ 3 ∷ [])) (opened 4000000))
     ∷ found (answer (key (7 ∷ 9 ∷ [])) (opened 6000000))
-    ∷ price (priced.Open (rate 94504678))
-    ∷ price (priced.Open (rate 999000000))
-    ∷ price priced.Block
-    ∷ charge (charged.Rated 61 13216667)
-    ∷ charge (charged.Rated 120 26000000)
-    ∷ charge (charged.Rated 36 7800000)
-    ∷ number (Value 300 2)
-    ∷ number (Refused 2)
+    ∷ price (Some (price_is.Open (rate 94504678)))
+    ∷ price (Some (price_is.Open (rate 999000000)))
+    ∷ price (Some price_is.Block)
+    ∷ charge (Ok (charged 61 13216667))
+    ∷ charge (Ok (charged 120 26000000))
+    ∷ charge (Ok (charged 36 7800000))
+    ∷ number (ok_at 300 2)
+    ∷ number (Err NotShortest)
     ∷ []
 
 computed : worked_with entries1 entries2 entries4 ≡ expected
 unfolding worked_with expected answer_after status_after p1 p2 p2_alone p4 p5_first p5_second p5_third p6_first p6_second notices_of
-    read_notice read_header read_dated read_named read_country is_country_code read_lines read_line read_code code_field read_terms read_rate
+    read_notice read_header read_dated read_kind read_country is_country_code read_lines read_line read_code code_field read_terms read_rate
     read_increments read_listed listed_field read_ranged read_number key digits digits_of_key is_code country country_of_key price_of word_of
     charge_of known change_of effective some_earlier line_for named_by closes closing latest_effective matched
 computed = refl

@@ -1,56 +1,43 @@
--- a cell that is not refused, by its entries
-use mathlib.Core.Path.{◌≡◌, ap, sym, ◌∙◌, ap₂}
-use mathlib.Core.List.{[], map}
-use native.Mathlib.Omega.{arith}
-use lib.ListN.{length}
-use lib.Seq.{sets}
-use Rattle.code_entry.specs.Entry.{entry_codes}
-use Rattle.code_cell.specs.Cell.{CellKeys, entries_of, keys_named, refusal_of, keys_of, cell_keys}
+use Rattle.std.proofs.Common.{◌≡◌, ◌≤◌, ap, sym, ◌∙◌, length, [], Ok, rules}
+use Rattle.code_cell.specs.Cell.{entry_names, cell_keys, checked}
+use Rattle.code_cell.specs.Count.{good_ranges, outcome, all_keys}
 use Rattle.code_cell.proofs.Refusals.{own_cell, plain_cell}
-use Rattle.cell_keys.specs.Answers.{count_of}
-use Rattle.cell_keys.proofs.Ones.{counted, no_keys_so}
-use Rattle.cell_keys.proofs.cell_keys.Goals.{Else-e-ne0}
+use Rattle.cell_keys.proofs.Ones.{unchecked, good_keys}
+use Rattle.cell_keys.proofs.cell_keys.Goals.{In_ok-check_cell}
 use Rattle.cell_keys.proofs.cell_keys.Goals as goal
 
-good_at : (c : Else-e-ne0) →
-    let a = c.args in
-    let x = keys_named (length a.keys.now) [] (map (entry_codes a.country.now) (entries_of a.cell.now)) in
-    (cell_keys a.country.now a.cell.now (length a.keys.now) ≡ x) × (refusal_of x ≡ 0)
-good_at c =
-    let a = c.args in
-    let q = plain_cell a.country.now a.cell.now (length a.keys.now) (sym c.is_own.ensures ∙ c.if-is_own.false) in
-    let z : c.cell_refusal-e.result ≡ 0 = omega arith in
-    (q, ap refusal_of (sym q) ∙ sym c.cell_refusal-e.ensures ∙ z)
+-- a cell that can be used, by its entries
+plain : (c : In_ok-check_cell) →
+    let ns = entry_names c.args.country.now c.args.cell.now in
+    (cell_keys c.args.country.now c.args.cell.now (length c.args.keys.now) ≡ Ok (all_keys [] (good_ranges ns)))
+    × (outcome ns ≡ Ok tt)
+    × (length (all_keys [] (good_ranges ns)) ≤ length c.args.keys.now)
+plain c =
+    let q = plain_cell c.args.country.now c.args.cell.now (length c.args.keys.now) (sym c.is_own.ensures ∙ c.if-is_own.false) in
+    let p = good_keys _ _ (ap checked (sym q) ∙ sym c.in_ok-check_cell.ensures) in
+    (q ∙ p.0, p.1, p.2)
 
 pub returns-then-is_own : goal.returns-then-is_own
 returns-then-is_own c =
-    let a = c.args in
-    let q = own_cell a.country.now a.cell.now (length a.keys.now) (sym c.is_own.ensures ∙ c.if-is_own.true) in
-    let e = c.write_own.ensures in
-    record { value = e.value ∙ ap count_of (sym q); after = e.after ∙ ap (λ (x : CellKeys). sets a.keys.now 0 (keys_of x)) (sym q) }
+    rw (own_cell c.args.country.now c.args.cell.now (length c.args.keys.now) (sym c.is_own.ensures ∙ c.if-is_own.true)) c.write_own.ensures
 
-pub returns-then-e-ne0 : goal.returns-then-e-ne0
-returns-then-e-ne0 c =
-    let a = c.args in
-    let x = cell_keys a.country.now a.cell.now (length a.keys.now) in
-    let e = c.cell_refusal-e.ensures in
-    let k = no_keys_so x (λ z. c.if-e-ne0.true (e ∙ z)) in
-    record { value = ap₂ counted e (sym (ap length k)); after = sym (ap (sets a.keys.now 0) k) }
+pub returns-in_err-check_cell : goal.returns-in_err-check_cell
+returns-in_err-check_cell c = rw (unchecked _ _ (sym c.in_err-check_cell.ensures)) (search rules)
 
-pub write_backward-n-requires : goal.write_backward-n-requires
-write_backward-n-requires c = (good_at (goal.at.write_backward-n-requires c).Else-e-ne0).1
+pub write_backward-requires : goal.write_backward-requires
+write_backward-requires c =
+    let p = plain (goal.at.write_backward-requires c).In_ok-check_cell in record { none_refused = p.1; room = p.2 }
+
+pub write_entries-requires : goal.write_entries-requires
+write_entries-requires c =
+    let p = plain (goal.at.write_entries-requires c).In_ok-check_cell in record { none_refused = p.1; room = p.2 }
 
 pub returns-then-is_falling : goal.returns-then-is_falling
 returns-then-is_falling c =
-    let a = c.args in
-    let g = good_at (goal.at.returns-then-is_falling c).Else-e-ne0 in
-    let e = c.write_backward-n.ensures in record { value = ap₂ counted (sym (ap refusal_of g.0 ∙ g.1)) (e.value ∙ ap (λ (x : CellKeys). length (keys_of x)) (sym g.0)); after = e.after ∙ ap (λ (x : CellKeys). sets a.keys.now 0 (keys_of x)) (sym g.0) }
-
-pub write_entries-n-requires : goal.write_entries-n-requires
-write_entries-n-requires c = (good_at (goal.at.write_entries-n-requires c).Else-e-ne0).1
+    let p = plain (goal.at.returns-then-is_falling c).In_ok-check_cell in
+    rw p.0 (record { value = ap Ok c.write_backward.ensures.value; after = c.write_backward.ensures.after })
 
 pub returns : goal.returns
 returns c =
-    let a = c.args in
-    let g = good_at (goal.at.returns c).Else-e-ne0 in
-    let e = c.write_entries-n.ensures in record { value = ap₂ counted (sym (ap refusal_of g.0 ∙ g.1)) (e.value ∙ ap (λ (x : CellKeys). length (keys_of x)) (sym g.0)); after = e.after ∙ ap (λ (x : CellKeys). sets a.keys.now 0 (keys_of x)) (sym g.0) }
+    let p = plain (goal.at.returns c).In_ok-check_cell in
+    rw p.0 (record { value = ap Ok c.write_entries.ensures.value; after = c.write_entries.ensures.after })

@@ -1,36 +1,34 @@
--- fill meets its contract. Assumes nothing.
-use mathlib.Core.Path.{refl}
-use Prim.Native.Nat.{◌+◌}
-use native.Mathlib.Omega.{arith}
-use Rattle.cell_keys.proofs.Turns.{fill_turn, fill_end, key_most, value_most}
+use Rattle.std.proofs.Common.{◌≡◌, ◌+◌, ◌-◌, ap, ◌∙◌, arith}
+use Rattle.code_cell.proofs.RangeKeys.{range_keys_law}
+use Rattle.cell_keys.specs.Writing.{key_at}
+use Rattle.cell_keys.proofs.Turns.{fill_first, fill_turn, fill_end, key_most}
 use Rattle.cell_keys.proofs.fill.Goals as goal
 
-pub loop-left-init : goal.loop-left-init
-loop-left-init c =
-    let p = c.requires in
-    record { run = p.run; keyed = p.start_is; room = p.room; long = refl; fills = refl }
-
-pub offset_bounds-keys-i : goal.offset_bounds-keys-i
-offset_bounds-keys-i c = omega (arith, c.loop-left.invariant.room, c.loop-left.invariant.run.2)
-
-pub bounds-keys-i : goal.bounds-keys-i
-bounds-keys-i c = omega (arith, c.loop-left.invariant.room)
-
-pub key_step-key-requires : goal.key_step-key-requires
-key_step-key-requires c =
-    let i = c.loop-left.invariant in
-    record { run = (i.run.0, i.run.1, omega arith, omega (arith, i.run.3)); weight_is = c.weight_of-weight.ensures }
+pub loop-i-init : goal.loop-i-init
+loop-i-init c =
+    let w = c.range.invariant in
+    let k = rw (← c.range.view_is) at c.requires.start_is in
+    let z : c.range.inside.first + (1 - 1) ≡ c.range.inside.first = omega arith in
+    (rw z k, rw k (fill_first _ _ _ _ _ w.least))
 
 pub overflow_add-key : goal.overflow_add-key
 overflow_add-key c =
-    let i = c.loop-left.invariant in
-    omega (arith, c.key_step-key.ensures, i.keyed, key_most _ (c.loop-left.value + 1) i.run.1)
+    record {
+      fits = omega (
+        arith,
+        c.loop-i.invariant.0,
+        c.key_step-key.ensures,
+        key_most c.range.inside.digits (c.range.inside.first + (c.loop-i.i - 1) + 1) c.range.invariant.few,
+      );
+    }
 
-pub overflow_add-value : goal.overflow_add-value
-overflow_add-value c = let i = c.loop-left.invariant in omega (arith, value_most _ _ _ i.run)
-
-pub loop-left-preserved : goal.loop-left-preserved
-loop-left-preserved c = fill_turn _ _ _ _ _ _ _ _ _ _ _ c.loop-left.invariant c.loop-left-test.true c.key_step-key.ensures
+pub loop-i-preserved : goal.loop-i-preserved
+loop-i-preserved c =
+    let v : c.range.inside.first + (c.loop-i.i - 1) + 1 ≡ c.range.inside.first + c.loop-i.i = omega arith in
+    let z : c.range.inside.first + (c.loop-i.i + 1 - 1) ≡ c.range.inside.first + c.loop-i.i = omega arith in
+    let k : c.loop-i.key + c.key_step-key.result ≡ key_at c.range.inside.digits (c.range.inside.first + c.loop-i.i) =
+    ap (λ x. x + c.key_step-key.result) c.loop-i.invariant.0 ∙ (rw v at c.key_step-key.ensures) in
+    (rw z k, rw k (fill_turn _ _ _ _ _ _ _ c.loop-i-test.true c.loop-i.invariant.1))
 
 pub returns : goal.returns
-returns c = fill_end _ _ _ _ _ _ _ _ _ _ c.loop-left.invariant c.loop-left-test.false
+returns c = rw (← c.range.view_is, range_keys_law) (fill_end _ _ _ _ _ _ _ c.loop-i-test.false c.loop-i.invariant.1)

@@ -1,10 +1,10 @@
--- fill meets its contract. Assumes nothing.
-use Rattle.cell_keys.proofs.Turns.{Fills}
+-- The keys of the first `i` codes are written.
+use Rattle.std.proofs.Common.{◌≡◌, ◌+◌, ◌-◌}
+use Rattle.cell_keys.specs.Writing.{key_at}
+use Rattle.cell_keys.proofs.Turns.{Filled}
 use Rattle.cell_keys.proofs.fill.Given as goal
 
-abbrev pub invariant-loop-left : goal.invariant-loop-left
-invariant-loop-left l =
-    Fills l.digits l.first l.count l.at l.initial.keys l.key l.value l.left l.i l.keys
-
-abbrev pub decreases-loop-left : goal.decreases-loop-left
-decreases-loop-left l = l.left
+abbrev pub invariant-loop-i : goal.invariant-loop-i
+invariant-loop-i l =
+    (l.key ≡ key_at l.range-inside.digits (l.range-inside.first + (l.i - 1)))
+    × Filled l.range-inside.digits l.range-inside.first l.range-inside.count l.at l.fn.keys l.i l.keys

@@ -1,28 +1,24 @@
--- merge meets its contract. Assumes nothing.
-use mathlib.Core.Path.{refl, ◌∙◌}
-use native.Mathlib.Omega.{arith}
+use Rattle.std.proofs.Common.{refl, ap, sym, ◌∙◌, take, arith}
+use Rattle.std.proofs.lemmas.List.Edits.{sets}
+use Rattle.code_entry.specs.Range.{range_keys}
+use Rattle.code_cell.specs.Cell.{insert_all}
 use Rattle.dial_code.proofs.Tests.{positive}
+use Rattle.code_cell.proofs.RangeKeys.{range_keys_law}
 use Rattle.cell_keys.proofs.Turns.{some_room, merge_old, merge_new, merge_ends, merge_rest, rest_fits, same_few, step_back, value_most}
-use Rattle.cell_keys.proofs.Puts.{run_one}
+use Rattle.cell_keys.proofs.Puts.{run_of}
 use Rattle.cell_keys.proofs.merge.Goals as goal
-
-pub overflow_add-first : goal.overflow_add-first
-overflow_add-first c = let r = c.requires.run in omega (arith, value_most _ _ _ r)
-
-pub key_of-key-requires : goal.key_of-key-requires
-key_of-key-requires c = let r = c.requires.run in (r.0, r.1, omega arith, omega (arith, r.2, r.3))
 
 pub loop-p-init : goal.loop-p-init
 loop-p-init c =
-    let p = c.requires in
     record {
-      run = p.run;
-      keyed = c.key_of-key.ensures;
-      few = p.in_bounds.0;
+      run = run_of _ c.range.invariant;
+      keyed = rw (← c.range.view_is) at c.last_key-key.ensures;
+      few = c.requires.in_bounds.0;
+      less = omega arith;
       long = refl;
-      rising = p.rising;
-      ends = p.together_is;
-      room = p.in_bounds.1;
+      rising = c.requires.rising;
+      ends = rw (← c.range.view_is, range_keys_law) at c.requires.together_is;
+      room = c.requires.in_bounds.1;
       merged = refl;
     }
 
@@ -33,15 +29,16 @@ pub loop-p-preserved-then-key-x : goal.loop-p-preserved-then-key-x
 loop-p-preserved-then-key-x c = merge_old _ _ _ _ _ _ _ _ _ _ _ c.loop-p.invariant c.loop-p-test.true refl c.if-key-x.true
 
 pub overflow_sub-p-in-loop-p : goal.overflow_sub-p-in-loop-p
-overflow_sub-p-in-loop-p c = omega (arith, same_few _ _ _ c.same-p.ensures, c.loop-p-test.true)
+overflow_sub-p-in-loop-p c = omega (arith, same_few _ _ _ c.from-p.ensures, c.loop-p-test.true)
 
 pub returns-then-left-eq0 : goal.returns-then-left-eq0
 returns-then-left-eq0 c =
-    merge_ends _ _ _ _ _ _ _ _ _ _ _ c.loop-p.invariant c.loop-p-test.true refl _ c.same-p.ensures
-    c.if-key-x.false c.if-left-eq0.true
+    rw (← c.range.view_is, range_keys_law)
+    (merge_ends _ _ _ _ _ _ _ _ _ _ _ c.loop-p.invariant c.loop-p-test.true refl _ c.from-p.ensures c.if-key-x.false
+    c.if-left-eq0.true)
 
-pub overflow_add-first-in-loop-p : goal.overflow_add-first-in-loop-p
-overflow_add-first-in-loop-p c = omega (arith, value_most _ _ _ c.loop-p.invariant.run)
+pub overflow_add-range-inside : goal.overflow_add-range-inside
+overflow_add-range-inside c = omega (arith, value_most _ _ _ c.loop-p.invariant.run)
 
 pub key_step-key-requires : goal.key_step-key-requires
 key_step-key-requires c =
@@ -53,21 +50,26 @@ overflow_sub-key c = omega (arith, step_back _ _ _ _ _ c.loop-p.invariant.keyed 
 
 pub loop-p-preserved : goal.loop-p-preserved
 loop-p-preserved c =
-    merge_new _ _ _ _ _ _ _ _ _ _ _ c.loop-p.invariant c.loop-p-test.true refl _ c.same-p.ensures
-    c.if-key-x.false _ c.if-left-eq0.false c.key_step-key.ensures
+    merge_new _ _ _ _ _ _ _ _ _ _ _ c.loop-p.invariant c.loop-p-test.true refl _ c.from-p.ensures c.if-key-x.false _
+    c.if-left-eq0.false c.key_step-key.ensures
 
-pub key_of-requires : goal.key_of-requires
-key_of-requires c = run_one _ _ _ c.loop-p.invariant.run
-
-pub fill-requires : goal.fill-requires
-fill-requires c =
-    let i = c.loop-p.invariant in
+pub invariant_of-rest : goal.invariant_of-rest
+invariant_of-rest c =
+    let r = c.loop-p.invariant.run in
     record {
-      run = i.run;
-      start_is = c.key_of.ensures;
-      room = omega (arith, rest_fits _ _ _ _ _ _ _ _ _ _ i c.loop-p-test.false);
+      some = r.0;
+      few = r.1;
+      least = r.2;
+      most = omega (arith, c.loop-p.invariant.less, c.range.invariant.most);
+      within = r.3;
     }
+
+pub fill-requires-clause-room : goal.fill-requires-clause-room
+fill-requires-clause-room c = omega (arith, rest_fits _ _ _ _ _ _ _ _ _ _ c.loop-p.invariant c.loop-p-test.false)
 
 pub returns : goal.returns
 returns c =
-    c.fill.ensures ∙ merge_rest _ _ _ _ _ _ _ _ _ _ c.loop-p.invariant c.loop-p-test.false
+    c.fill.ensures
+    ∙ ap (sets c.loop-p.keys 0) (range_keys_law _)
+    ∙ merge_rest _ _ _ _ _ _ _ _ _ _ c.loop-p.invariant c.loop-p-test.false
+    ∙ ap (λ ks. sets c.args.keys.now 0 (insert_all ks (take c.args.old c.args.keys.now))) (sym (range_keys_law _) ∙ ap range_keys c.range.view_is)

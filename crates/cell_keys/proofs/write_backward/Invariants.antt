@@ -1,9 +1,8 @@
--- write_backward meets its contract. Assumes nothing.
-use Rattle.cell_keys.proofs.Starts.{Backed}
+-- The keys of the entries that are read, from the last on, stand at the front.
+use Rattle.code_cell.specs.Cell.{entry_names}
+use Rattle.code_cell.specs.Reading.{names_left}
+use Rattle.cell_keys.proofs.Backward.{Backed}
 use Rattle.cell_keys.proofs.write_backward.Given as goal
 
 abbrev pub invariant-loop-range : goal.invariant-loop-range
-invariant-loop-range l = Backed l.country l.cell l.initial.keys l.end l.n l.keys
-
-abbrev pub decreases-loop-range : goal.decreases-loop-range
-decreases-loop-range l = l.end
+invariant-loop-range l = Backed l.fn.keys (entry_names l.fn.country l.fn.cell) (names_left l.range-iterator.iter) l.n l.keys

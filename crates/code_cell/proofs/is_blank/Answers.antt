@@ -1,21 +1,12 @@
--- is_blank meets its contract. Assumes nothing.
-use mathlib.Core.Path.{refl, sym, ◌∙◌}
-use native.Mathlib.Omega.{arith}
-use Rattle.code_cell.proofs.Looks.{blank_next, blank_not, blank_end}
+use Rattle.std.proofs.Common.{◌∙◌, rules}
+use borrow.Author.Tests.{tests}
+use Rattle.std.proofs.lemmas.Iterator.{YieldsList-from_slice}
+use Rattle.std.proofs.lemmas.Iterator.Search.{all_from_yields_List}
+use Rattle.code_entry.specs.Entry.{is_blank}
+use Rattle.code_cell.proofs.Looks.{every_all}
 use Rattle.code_cell.proofs.is_blank.Goals as goal
 
-pub loop-at-init : goal.loop-at-init
-loop-at-init c = (omega arith, refl)
-
-pub returns-then-cell-at-ne32 : goal.returns-then-cell-at-ne32
-returns-then-cell-at-ne32 c =
-    let l = c.loop-at in
-    sym (sym l.invariant.1 ∙ blank_not _ l.at c.loop-at-test.true c.if-cell-at-ne32.true)
-
-pub loop-at-preserved : goal.loop-at-preserved
-loop-at-preserved c =
-    let l = c.loop-at in
-    (omega (arith, c.loop-at-test.true), sym (blank_next _ l.at c.loop-at-test.true (omega arith)) ∙ l.invariant.1)
-
 pub returns : goal.returns
-returns c = let l = c.loop-at in sym (sym l.invariant.1 ∙ blank_end _ l.at c.loop-at-test.false)
+returns c =
+    all_from_yields_List is_blank _ _ c.all.result c.all.ensures.ran (YieldsList-from_slice c.args.cell.now (cc)) (λ x b q k. search (rules, tests))
+    ∙ every_all is_blank c.args.cell.now

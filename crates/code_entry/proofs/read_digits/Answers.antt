@@ -1,43 +1,23 @@
--- read_digits meets its contract. The loop's invariant: the digits from `at` on, behind the code, are those from the start behind
--- the first one. The measure is the number of bytes left. Assumes nothing.
-use mathlib.Core.Path.{◌≡◌, refl, sym, ◌∙◌}
-use mathlib.Core.Bool.{true}
-use native.Mathlib.Omega.{arith}
-use borrow.Author.Tests.{le-leb, lt-leb}
-use lib.Dec.{leb}
-use Rattle.dial_code.specs.Digits.{is_ascii}
-use Rattle.dial_code.proofs.Tests.{and_left_true, and_left_false, and_right_false}
-use Rattle.code_entry.proofs.Counting.{push_held, run_ends, run_goes, run_stops}
+use Rattle.std.proofs.Common.{◌≡◌, ◌+◌, length, ap, sym, ◌∙◌, add-zero, length-drop, arith}
+use Rattle.std.proofs.lemmas.List.{take_rest}
+use Rattle.code_entry.proofs.Counting.{run_ends, run_stops, run_goes}
 use Rattle.code_entry.proofs.read_digits.Goals as goal
 
-pub loop-at-init : goal.loop-at-init
-loop-at-init c = (refl, c.requires.1, c.requires.0)
+pub loop-i-init : goal.loop-i-init
+loop-i-init c = rw (take_rest, add-zero)
 
-pub returns-then-b-lt48 : goal.returns-then-b-lt48
-returns-then-b-lt48 c =
-    let l = c.loop-at in
-    let n = and_left_false _ (lt-leb 48 c.wide-b.result c.if-b-lt48.true) in
-    sym (run_stops _ _ _ _ c.loop-at-test.true c.wide-b.ensures.0 n) ∙ l.invariant.0
+pub returns-then-not-is_ascii_digit : goal.returns-then-not-is_ascii_digit
+returns-then-not-is_ascii_digit c =
+    sym (run_stops _ _ _ _ c.loop-i-test.true (sym c.is_ascii_digit.ensures.value ∙ c.if-not-is_ascii_digit.true)) ∙ c.loop-i.invariant
 
-pub returns-then-b-gt57 : goal.returns-then-b-gt57
-returns-then-b-gt57 c =
-    let l = c.loop-at in
-    let n = and_right_false (leb 48 c.wide-b.result) (lt-leb _ 57 c.if-b-gt57.true) in
-    sym (run_stops _ _ _ _ c.loop-at-test.true c.wide-b.ensures.0 n) ∙ l.invariant.0
-
-pub push_digit-code-requires : goal.push_digit-code-requires
-push_digit-code-requires c = (c.loop-at.invariant.2, omega arith)
-
-pub loop-at-preserved : goal.loop-at-preserved
-loop-at-preserved c =
-    let l = c.loop-at in
-    let b = c.wide-b.result in
-    let y : is_ascii b ≡ true = and_left_true _ (le-leb 48 b (omega arith)) ∙ le-leb b 57 (omega arith) in (
-      rw c.push_digit-code.ensures
-          (sym (run_goes _ _ _ b c.loop-at-test.true c.wide-b.ensures.0 y) ∙ l.invariant.0),
-      omega arith,
-      rw c.push_digit-code.ensures (push_held _ _ l.invariant.2 (omega arith)),
-    )
+pub loop-i-preserved : goal.loop-i-preserved
+loop-i-preserved c =
+    let e = run_goes c.loop-i.code _ _ (c.args.start + c.loop-i.i) c.loop-i-test.true (sym c.is_ascii_digit.ensures.value ∙ c.if-not-is_ascii_digit.false) in
+    let n : c.args.start + (c.loop-i.i + 1) ≡ c.args.start + c.loop-i.i + 1 = omega arith in
+    rw (n, c.push-code.ensures, c.from.ensures) (sym e ∙ c.loop-i.invariant)
 
 pub returns : goal.returns
-returns c = sym (run_ends _ _ _ c.loop-at-test.false) ∙ c.loop-at.invariant.0
+returns c =
+    let l = ap length (take_rest c.args.cell.now c.args.start) ∙ length-drop c.args.start c.args.cell.now in
+    let n : length c.args.cell.now ≡ c.args.start + c.loop-i.i = omega (arith, l, c.loop-i.auto.i-end, c.loop-i-test.false) in
+    rw n (sym (run_ends _ _ _ _ c.loop-i-test.false) ∙ c.loop-i.invariant)

@@ -1,14 +1,7 @@
--- read_digits meets its contract. The loop's invariant: the digits from `at` on, behind the code, are those from the start behind
--- the first one. The measure is the number of bytes left. Assumes nothing.
-use mathlib.Core.Path.{◌≡◌}
-use Prim.Native.Nat.{◌-◌, ◌≤◌}
-use lib.ListN.{length, drop}
-use Rattle.code_entry.specs.Scan.{Held, run_of}
+-- The digits from the place `i` on, behind those so far, are those from the start on.
+use Rattle.std.proofs.Common.{◌≡◌, ◌+◌, drop}
+use Rattle.code_entry.specs.Scan.{run_of}
 use Rattle.code_entry.proofs.read_digits.Given as goal
 
-abbrev pub invariant-loop-at : goal.invariant-loop-at
-invariant-loop-at l =
-    (run_of l.code l.at (drop l.at l.cell) ≡ run_of l.initial.code l.start (drop l.start l.cell)) × (l.at ≤ length l.cell) × (Held l.code)
-
-abbrev pub decreases-loop-at : goal.decreases-loop-at
-decreases-loop-at l = length l.cell - l.at
+abbrev pub invariant-loop-i : goal.invariant-loop-i
+invariant-loop-i l = run_of l.code (l.start + l.i) (drop l.i l.b-items) ≡ run_of l.fn.own l.start (drop l.start l.cell)

@@ -1,7 +1,12 @@
--- best_offer meets its contract. The loop's invariant: what is left to try, of `n` places or fewer, gives the answer; `place` is
--- the weight of the n-th place, and `quotient` the key's by it. The measure is `n`. Assumes nothing.
-use mathlib.Core.Path.{◌≡◌, refl, sym, ◌∙◌}
-use Prim.Native.Nat.{◌-◌, ◌*◌, min}
+-- best_offer meets its contract: a turn answers, or leaves one place fewer to try. Assumes nothing.
+use mathlib.Core.Path.{◌≡◌, refl, ap, sym, ◌∙◌}
+use Rattle.std.proofs.Common.{Result, Ok, Err}
+use Rattle.std.specs.Result.{result_ok, result_unwrap_or}
+use Rattle.rate.specs.OfferWord.{offer_of}
+use Rattle.rate.specs.declared.Offer.{Offer}
+use Rattle.rate.specs.declared.Offer.TheVariants.{Closed}
+use Rattle.book.specs.Status.{held_offer}
+use Prim.Native.Nat.{ℕ, ◌-◌, ◌*◌, ◌<◌, min}
 use native.Mathlib.Omega.{arith}
 use Rattle.dial_code.proofs.CountedKeys.{next_weight, weight_most}
 use Rattle.longest_match.specs.Search.{tried, best_found}
@@ -10,90 +15,95 @@ use Rattle.book.proofs.Headers.{count_room}
 use Rattle.longest_match.proofs.Halving.{found_room}
 use Rattle.longest_match.proofs.Matching.{stands, passes, place_key, next_quotient, prefix_most}
 use Rattle.longest_match.proofs.Matching.{starts, no_place, no_entry_law, passed_by, searched}
-use Rattle.longest_match.proofs.best_offer.Goals.{After-offer_held-offer, else-k-bound, then-k-bound+else-is_standing}
+use Rattle.longest_match.proofs.best_offer.Goals.{After-unwrap_or-offer, else-k-bound, then-k-bound+else-is_standing}
 use Rattle.longest_match.proofs.best_offer.Goals as goal
+
+-- the offer that a word stands for, closed where it is no offer word
+held : {E : Type 0} (r : Result Offer E) {o : Offer} (word : ℕ) → result_ok r ≡ offer_of word → o ≡ result_unwrap_or r Closed
+    → o ≡ held_offer (offer_of word)
+held (Ok x) word e q = q ∙ ap held_offer e
+held (Err z) word e q = q ∙ ap held_offer e
 
 -- the answer by the offer found
 at_offer :
-    (c : After-offer_held-offer)
-    → let l = c.loop-n in
+    (c : After-unwrap_or-offer)
+    → let l = c.loop in
     let a = c.args in
     let k = l.quotient * l.place in
     best_found a.words.now a.key a.day
-    ≡ standing c.offer_held-offer.result k
-    (tried a.words.now a.key a.day (l.n - 1) c.entries_up_to-count.result
+    ≡ standing c.unwrap_or-offer.result k
+    (tried a.words.now a.key a.day (l.invariant.places - 1) c.entries_up_to-count.result
     (min c.last_entry-e.result.key (k - 1)))
 at_offer c =
-    let l = c.loop-n in
-    l.invariant.4
-    ∙ searched _ _ _ l.n l.count l.bound _
-    c.loop-n-test.true
-    (place_key _ _ _ _ l.invariant.1 l.invariant.2)
+    let l = c.loop in
+    l.invariant.rest
+    ∙ searched _ _ _ l.invariant.places l.count l.bound _
+    (omega (arith, c.loop-test.true))
+    (place_key _ _ _ _ l.invariant.weight l.invariant.truncated)
     c.if-k-bound.true
     c.entries_up_to-count.ensures
     c.last_entry-e.ensures
     c.own_word.ensures
-    c.offer_held-offer.ensures
+    (held _ _ c.try_from.ensures c.unwrap_or-offer.ensures)
 
-pub loop-n-init : goal.loop-n-init
-loop-n-init c =
+pub loop-init : goal.loop-init
+loop-init c =
     let e = c.headed_count-count.ensures in
-    (omega arith, refl, omega arith, rw e (count_room _).0, starts _ _ _ e)
+    record { places = 15; left = refl; weight = refl; truncated = omega arith; room = rw e (count_room _).0; rest = starts _ _ _ e }
 
 pub returns-then-count-eq0 : goal.returns-then-count-eq0
-returns-then-count-eq0 c = sym (c.loop-n.invariant.4 ∙ no_entry_law _ _ _ _ _ _ c.if-count-eq0.true)
+returns-then-count-eq0 c = sym (c.loop.invariant.rest ∙ no_entry_law _ _ _ _ _ _ c.if-count-eq0.true)
 
 pub overflow_mul-k : goal.overflow_mul-k
 overflow_mul-k c =
-    let l = c.loop-n in
+    let i = c.loop.invariant in
     let a = c.args in
-    omega (arith, place_key _ _ _ _ l.invariant.1 l.invariant.2, prefix_most a.key l.n)
-
-pub entries_up_to-count-requires : goal.entries_up_to-count-requires
-entries_up_to-count-requires c = c.loop-n.invariant.3
+    omega (arith, place_key _ _ _ _ i.weight i.truncated, prefix_most a.key i.places)
 
 pub last_entry-e-requires : goal.last_entry-e-requires
-last_entry-e-requires c = found_room _ _ _ _ c.loop-n.invariant.3 c.entries_up_to-count.ensures
+last_entry-e-requires c = found_room _ _ _ _ c.loop.invariant.room c.entries_up_to-count.ensures
 
 pub returns-then-is_standing : goal.returns-then-is_standing
 returns-then-is_standing c =
-    sym (at_offer (goal.at.returns-then-is_standing c).After-offer_held-offer ∙ stands _ _ _ (sym c.is_standing.ensures ∙ c.if-is_standing.true))
+    sym (at_offer (goal.at.returns-then-is_standing c).After-unwrap_or-offer ∙ stands _ _ _ (sym c.is_standing.ensures ∙ c.if-is_standing.true))
 
 pub overflow_mul-place : goal.overflow_mul-place
-overflow_mul-place c = omega (arith, weight_most _ _ c.loop-n-test.true c.loop-n.invariant.1)
+overflow_mul-place c = let i = c.loop.invariant in omega (arith, weight_most _ _ (omega (arith, c.loop-test.true)) i.weight)
 
-pub loop-n-preserved : goal.loop-n-preserved
-loop-n-preserved c =
-    let l = c.loop-n in
-    let h = c.loop-n-test.true in
-    let q = place_key _ _ _ _ l.invariant.1 l.invariant.2 in (
-      omega arith,
-      next_weight _ _ h l.invariant.0 l.invariant.1,
-      next_quotient _ _ _ l.invariant.2,
-      elim c.if-k-bound.branch [
-        | then-k-bound+else-is_standing v ↦ rw v.count-is (found_room _ _ _ _ l.invariant.3 v.entries_up_to-count.ensures)
-        | else-k-bound v ↦ rw v.count-is l.invariant.3
-      ],
-      elim c.if-k-bound.branch [
+pub loop-preserved : goal.loop-preserved
+loop-preserved c =
+    let l = c.loop in
+    let i = l.invariant in
+    let h : 0 < i.places = omega (arith, c.loop-test.true) in
+    let q = place_key _ _ _ _ i.weight i.truncated in
+    record {
+      places = i.places - 1;
+      left = omega arith;
+      weight = next_weight _ _ h (omega arith) i.weight;
+      truncated = next_quotient _ _ _ i.truncated;
+      room = elim c.if-k-bound.branch [
+        | then-k-bound+else-is_standing v ↦ rw v.count-is (found_room _ _ _ _ i.room v.entries_up_to-count.ensures)
+        | else-k-bound v ↦ rw v.count-is i.room
+      ];
+      rest = elim c.if-k-bound.branch [
         | then-k-bound+else-is_standing v ↦
             let a = c.args in
             let k = l.quotient * l.place in
-            let rest = tried a.words.now a.key a.day (l.n - 1) v.entries_up_to-count.result (min v.last_entry-e.result.key (k - 1)) in
-            rw (v.count-is, v.bound-is, v.lesser_below-bound.ensures)
-            (l.invariant.4
-            ∙ searched _ _ _ l.n l.count l.bound _ h q
+            let rest = tried a.words.now a.key a.day (i.places - 1) v.entries_up_to-count.result (min v.last_entry-e.result.key (k - 1)) in
+            rw (v.count-is, v.bound-is, v.min-bound.ensures, v.saturating_sub.ensures)
+            (i.rest
+            ∙ searched _ _ _ i.places l.count l.bound _ h q
             v.if-k-bound.true
             v.entries_up_to-count.ensures
             v.last_entry-e.ensures
             v.own_word.ensures
-            v.offer_held-offer.ensures
-            ∙ passes v.offer_held-offer.result k rest (sym v.is_standing.ensures ∙ v.if-is_standing.false))
-        | else-k-bound v ↦
-            rw (v.count-is, v.bound-is) (l.invariant.4 ∙ passed_by _ _ _ _ _ _ _ h q v.if-k-bound.false)
-      ],
-    )
+            (held _ _ v.try_from.ensures v.unwrap_or-offer.ensures)
+            ∙ passes v.unwrap_or-offer.result k rest (sym v.is_standing.ensures ∙ v.if-is_standing.false))
+        | else-k-bound v ↦ rw (v.count-is, v.bound-is) (i.rest ∙ passed_by _ _ _ _ _ _ _ h q v.if-k-bound.false)
+      ];
+    }
 
 pub returns : goal.returns
 returns c =
-    let l = c.loop-n in
-    sym (l.invariant.4 ∙ no_place _ _ _ l.n _ _ (omega arith))
+    let i = c.loop.invariant in
+    sym (i.rest ∙ no_place _ _ _ i.places _ _ (omega arith))

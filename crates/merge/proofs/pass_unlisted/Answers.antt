@@ -1,95 +1,44 @@
--- `merge::pass_unlisted` meets its contract. The loop's invariant: putting what is left of the gap does the whole of it, and codes
--- remembered as alike are closed alike. Assumes nothing.
-use mathlib.Core.Path.{◌≡◌, refl, sym, ◌∙◌}
-use mathlib.Core.List.{◌++◌}
-use Prim.Native.Nat.{◌+◌, ◌-◌}
-use native.Mathlib.Omega.{arith}
-use Rattle.book_words.specs.Layout.{entry_words, entries_from}
-use Rattle.book_words.proofs.Rows.{rows_none}
-use Rattle.merge_rule.specs.Passes.{gap_below, unlisted_as}
+-- `merge::pass_unlisted` meets its contract: an entry more is passed. Assumes nothing.
+use lib.ListN.{length-append}
+use Rattle.std.proofs.Common.{rules, ◌≡◌, ◌∷◌, length, refl, ap, sym, ◌∙◌, arith, true}
+use Rattle.book_words.specs.Layout.{put_entries}
+use Rattle.book_words.proofs.Stores.{puts_on}
 use Rattle.closing.specs.Closings.{closes_by}
-use Rattle.closing.proofs.ClosingLaws.{ClosedAlike, anyway_alike, range_alike, range_closed}
-use Rattle.book_words.proofs.Stores.{writing_all, writing_on, writing_counted, writing_end}
-use Rattle.merge.proofs.PassLaws.{next_row, gap_on, gap_stops, gap_none, rest_on, rest_stops, rest_none, at_most_two}
-use Rattle.merge.proofs.pass_unlisted.Goals.{Joined-not-is_within, else-not-is_within, then-not-is_within}
+use Rattle.closing.proofs.ClosingLaws.{ClosedAlike, range_alike, range_closed}
+use Rattle.country_code.specs.Stretches.{is_within}
+use Rattle.merge_rule.specs.Passes.{unlisted_as, gap_below}
+use Rattle.merge.proofs.PassLaws.{gap_on, rest_on, at_most_two}
+use Rattle.merge.proofs.pass_unlisted.Goals.{Joined-not-contains, then-not-contains, else-not-contains}
 use Rattle.merge.proofs.pass_unlisted.Goals as goal
 
-pub loop-left-init : goal.loop-left-init
-loop-left-init c = (omega arith, omega arith, omega arith, writing_all _ _ _, refl, rw c.closed_anyway-alike.ensures (anyway_alike _ _))
-
-pub returns-then-below-e : goal.returns-then-below-e
-returns-then-below-e c =
-    let a = c.args in
-    let l = c.loop-left in
-    let q = next_row a.old.now l.at l.left c.loop-left-test.true c.old_entry-e.ensures in
-    let none = gap_stops a.below (closes_by a.plan a.marks.now) a.plan.closing _ _ q c.if-below-e.true in record {
-      passed = record {
-        counted = writing_counted l.invariant.3 none;
-        stands = l.invariant.0;
-        fewer = l.invariant.1;
-        left = rest_stops a.below _ _ q c.if-below-e.true ∙ l.invariant.4;
-      };
-      after = writing_end l.invariant.3 none;
-    }
-
 -- what is remembered of codes closed alike, and whether the entry's is closed
-is_known : (c : Joined-not-is_within) →
-    let p = c in
-    let a = p.args in
-    ClosedAlike a.plan a.marks.now c.if-not-is_within.alike
-    × (c.if-not-is_within.alike.closed ≡ closes_by a.plan a.marks.now p.old_entry-e.result.key)
-is_known c =
-    let p = c in
-    let a = p.args in
-    let l = p.loop-left in
-    (elim c.if-not-is_within.branch [ then-not-is_within v ↦ rw (v.alike-is ∙ v.closed_range-alike.ensures) (range_alike a.plan a.marks.now _, range_closed a.plan a.marks.now _) | else-not-is_within v ↦ rw v.alike-is (l.invariant.5, l.invariant.5 _ (sym c.is_within.ensures ∙ v.if-not-is_within.false)) ])
-
-at_entry : (c : Joined-not-is_within) →
-    let p = c in
-    let a = p.args in
-    let l = p.loop-left in
-    let closes = closes_by a.plan a.marks.now in
-    let day = a.plan.closing in
-    let es = entries_from a.old.now (l.at + entry_words) (l.left - 1) in
-    gap_below a.below closes day (entries_from a.old.now l.at l.left)
-    ≡ unlisted_as c.if-not-is_within.alike.closed day p.old_entry-e.result es ++ gap_below a.below closes day es
-at_entry c =
-    let p = c in
-    let a = p.args in
-    let q = next_row _ _ _ p.loop-left-test.true p.old_entry-e.ensures in
-    gap_on a.below (closes_by a.plan a.marks.now) a.plan.closing _ _ q c.if-below-e.false
-    (is_known c).1
-
-pub put_unlisted-count-requires : goal.put_unlisted-count-requires
-put_unlisted-count-requires c =
-    omega (arith, c.loop-left.invariant.2, c.loop-left.invariant.3.same, c.requires)
-
-pub loop-left-preserved : goal.loop-left-preserved
-loop-left-preserved c =
+known : (c : Joined-not-contains) →
     let a = c.args in
-    let l = c.loop-left in
-    let q = next_row a.old.now l.at l.left c.loop-left-test.true c.old_entry-e.ensures in
-    let es = entries_from a.old.now (l.at + entry_words) (l.left - 1) in
-    let put = c.put_unlisted-count.ensures in (
-      omega arith,
-      omega arith,
-      omega (arith, put.value, at_most_two a.plan.closing c.old_entry-e.result es c.if-not-is_within.alike.closed),
-      writing_on l.invariant.3 _ _ _ (at_entry (goal.at.loop-left-preserved c).Joined-not-is_within) put.value put.after,
-      sym (rest_on a.below _ _ q c.if-below-e.false) ∙ l.invariant.4,
-      (is_known (goal.at.loop-left-preserved c).Joined-not-is_within).0,
+    ClosedAlike a.plan a.marks.now c.if-not-contains.alike
+    × (c.if-not-contains.alike.closed ≡ closes_by a.plan a.marks.now c.in-Some.e.key)
+known c =
+    let a = c.args in
+    elim c.if-not-contains.branch [
+      | then-not-contains v ↦ rw (v.alike-is ∙ v.closed_range-alike.ensures) (range_alike a.plan a.marks.now _, range_closed a.plan a.marks.now _)
+      | else-not-contains v ↦
+          let within : is_within c.loop-e.alike.keys c.in-Some.e.key ≡ true = search rules in
+          rw v.alike-is (c.loop-e.invariant.4, c.loop-e.invariant.4 c.in-Some.e.key within)
+    ]
+
+pub loop-e-preserved : goal.loop-e-preserved
+loop-e-preserved c =
+    let a = c.args in
+    let l = c.loop-e in
+    let es = c.next.new.self in
+    let next : l.rest ≡ c.in-Some.e ∷ es = search rules in
+    let k = known (goal.at.loop-e-preserved c).Joined-not-contains in
+    let gap = gap_on a.below (closes_by a.plan a.marks.now) a.plan.closing _ _ next c.if-below-e.false k.1 in
+    let put = c.put_unlisted-count.ensures in
+    let xs = unlisted_as c.if-not-contains.alike.closed a.plan.closing c.in-Some.e es in
+    let ys = gap_below a.below (closes_by a.plan a.marks.now) a.plan.closing es in (
+      omega (arith, l.invariant.0, put.value, ap length next, at_most_two a.plan.closing c.in-Some.e es c.if-not-contains.alike.closed),
+      omega (arith, l.invariant.1, put.value, ap length gap, length-append xs ys),
+      puts_on l.new l.count c.put_unlisted-count.result xs ys put.value put.after refl ∙ ap (put_entries l.new l.count) (sym gap) ∙ l.invariant.2,
+      sym (rest_on a.below _ _ next c.if-below-e.false) ∙ l.invariant.3,
+      k.0,
     )
-
-pub returns : goal.returns
-returns c =
-    let a = c.args in
-    let l = c.loop-left in
-    let q = rows_none a.old.now l.at l.left (omega arith) in
-    let none = gap_none a.below (closes_by a.plan a.marks.now) a.plan.closing q in record {
-      passed = record {
-        counted = writing_counted l.invariant.3 none;
-        stands = l.invariant.0;
-        fewer = l.invariant.1;
-        left = rest_none a.below q ∙ l.invariant.4;
-      };
-      after = writing_end l.invariant.3 none;
-    }

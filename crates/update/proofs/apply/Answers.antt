@@ -1,36 +1,15 @@
--- `update::apply` meets its contract: 20 and 21 for the old book, 20 for the new, the notice's own refusals, and what
--- a checked notice comes to. Assumes nothing.
-use mathlib.Core.Path.{sym, ◌∙◌}
-use native.Mathlib.Omega.{arith}
-use Rattle.book.proofs.Usable.{usable_sound}
-use Rattle.update.proofs.Answering.{refuses, no_old, no_new, refuses_notice}
-use Rattle.slice_laws.proofs.Clauses.{both}
+-- `update::apply` meets its contract: a notice that the check refuses. Assumes nothing.
+use Rattle.std.proofs.Common.{rules, ◌≡◌, sym, ◌∙◌, Ok, Err, length}
+use Rattle.notice.specs.NoticeRule.{check_notice}
+use Rattle.book.specs.Answers.{check_book}
+use Rattle.update.proofs.Answering.{refuses_notice}
 use Rattle.update.proofs.apply.Goals as goal
 
-pub returns-then-unusable-ne0 : goal.returns-then-unusable-ne0
-returns-then-unusable-ne0 c =
-    let e = c.book_refusal-unusable.ensures in
-    let n = c.if-unusable-ne0.true in both (refuses _ _ _ _ c.refused.ensures (no_old _ _ _ (λ z. n (e ∙ z)) ∙ sym e) n)
-
-pub returns-then-new-lt-HEADER_WORDS : goal.returns-then-new-lt-HEADER_WORDS
-returns-then-new-lt-HEADER_WORDS c =
-    let e = sym c.book_refusal-unusable.ensures ∙ c.if-unusable-ne0.false in both (refuses _ _ _ _ c.refused-then-new-lt-HEADER_WORDS.ensures (no_new _ _ _ e c.if-new-lt-HEADER_WORDS.true) (λ z. omega arith))
-
-pub apply_checked-requires : goal.apply_checked-requires
-apply_checked-requires c = (
-  usable_sound _ (sym c.book_refusal-unusable.ensures ∙ c.if-unusable-ne0.false),
-  c.if-new-lt-HEADER_WORDS.false,
-  sym c.check_notice.ensures ∙ c.in-Notice.is,
-)
-
-pub returns-in-Refused : goal.returns-in-Refused
-returns-in-Refused c =
-    both (refuses_notice _ _ _ _ c.refused-in-Refused.ensures (sym c.book_refusal-unusable.ensures ∙ c.if-unusable-ne0.false)
-    c.if-new-lt-HEADER_WORDS.false
-    (sym c.check_notice.ensures ∙ c.in-Refused.is))
-
-pub shape_of-new : goal.shape_of-new
-shape_of-new c = c.apply_checked.auto.new
-
-pub returns-in-Notice : goal.returns-in-Notice
-returns-in-Notice c = c.apply_checked.ensures
+pub returns-in_err-m-clause-value : goal.returns-in_err-m-clause-value
+returns-in_err-m-clause-value c =
+    let a = c.args in
+    let e = c.in_err-m.field-0.0 in
+    let answers : c.from_residual-in_err-m.result ≡ Err e = search rules in
+    let usable : check_book a.old.now ≡ Ok tt = search rules in
+    let refused : check_notice a.notice.now ≡ Err e = search rules in
+    answers ∙ sym (refuses_notice a.old.now a.notice.now (length a.new.now) e usable c.if-new-lt-HEADER_WORDS.false refused)

@@ -1,5 +1,5 @@
 -- `update::apply_checked` meets its contract: 10, 30, or the new book. Assumes nothing.
-use mathlib.Core.Path.{◌≡◌, ap, ap₂, ◌∙◌}
+use mathlib.Core.Path.{◌≡◌, refl, ap, ap₂, ◌∙◌}
 use Prim.Native.Nat.{◌≤◌}
 use native.Mathlib.Omega.{arith}
 use Rattle.book_words.specs.Layout.{period_of, received_of, latest_of}
@@ -12,7 +12,7 @@ use Rattle.update.proofs.apply_checked.Goals.{After-plan_of-plan, Else-m-header}
 use Rattle.update.proofs.apply_checked.Goals as goal
 
 -- the notice is not received too early
-in_time : (c : Else-m-header) → let a = c.args in received_of a.old.now ≤ a.m.received
+in_time : (c : Else-m-header) → let a = c.args in received_of a.old.now ≤ a.m.header.received
 in_time c = omega (arith, c.if-m-header.false, ap (λ (h : Header). h.received) c.header_of-header.ensures)
 
 -- the plan is that of the header's period and latest day
@@ -27,7 +27,7 @@ planned c =
 pub returns-then-m-header : goal.returns-then-m-header
 returns-then-m-header c =
     let p = c.requires in
-    let h = ap (λ (x : Header). x.received) c.header_of-header.ensures in both (refuses_earlier _ _ _ _ p.0 p.1 p.2 c.refused.ensures (omega (arith, c.if-m-header.true, h)))
+    let h = ap (λ (x : Header). x.received) c.header_of-header.ensures in both (refuses_earlier _ _ _ _ p.0 p.1 p.2 refl (omega (arith, c.if-m-header.true, h)))
 
 pub plan_of-plan-requires : goal.plan_of-plan-requires
 plan_of-plan-requires c =
@@ -45,7 +45,7 @@ pub returns-then-not-has_room : goal.returns-then-not-has_room
 returns-then-not-has_room c =
     let a = c.args in
     let p = c.requires in both (refuses_full a.old.now a.notice.now a.m a.new.now p.0 p.1 p.2 (in_time (goal.at.returns-then-not-has_room c).Else-m-header) (planned (goal.at.returns-then-not-has_room c).After-plan_of-plan)
-    c.marks_for-marks.ensures c.has_room.ensures c.refused-then-not-has_room.ensures
+    c.marks_for-marks.ensures c.has_room.ensures refl
     (c.if-not-has_room.true))
 
 pub fill-done-requires : goal.fill-done-requires

@@ -16,12 +16,12 @@ use Rattle.update.proofs.fill.Goals as goal
 -- the entries and the latest day
 merged : (c : After-merge-done) →
     let a = c.args in
-    let ls = lines_at a.m.lines a.notice.now a.m.start in
+    let ls = lines_at a.m.header.lines a.notice.now a.m.header.start in
     (c.merge-done.result.count ≡ length (merged_by a.old.now a.plan a.marks.now ls))
     × (c.merge-done.result.latest ≡ latest_by a.plan (found_in a.old.now) (latest_of a.old.now) ls)
 merged c =
     let a = c.args in
-    answered a.old.now a.plan a.marks.now a.notice.now a.m.start a.m.lines c.requires.0 c.merge-done.ensures.value
+    answered a.old.now a.plan a.marks.now a.notice.now a.m.header.start a.m.header.lines c.requires.0 c.merge-done.ensures.value
 
 -- the entries have room
 room : (c : After-merge-done) →
@@ -39,13 +39,13 @@ overflow_add-done c =
 pub returns : goal.returns
 returns c =
     let a = c.args in
-    let ls = lines_at a.m.lines a.notice.now a.m.start in
+    let ls = lines_at a.m.header.lines a.notice.now a.m.header.start in
     let m = merged (goal.at.returns c).After-merge-done in
     let h = c.write_header.ensures in
     let p : c.header_of-before.result.period ≡ _ = ap (λ (x : Header). x.period) c.header_of-before.ensures in record {
       value = m;
       after = book_made a.new.now (merged_by a.old.now a.plan a.marks.now ls) _ _ _ c.requires.1 m.0
-          (written_all a.old.now a.plan a.marks.now a.notice.now a.m.start a.m.lines c.requires.0 a.new.now c.requires.1 c.merge-done.ensures.after)
+          (written_all a.old.now a.plan a.marks.now a.notice.now a.m.header.start a.m.header.lines c.requires.0 a.new.now c.requires.1 c.merge-done.ensures.after)
           c.clear.ensures
           (rw (p, m.1) at h);
     }

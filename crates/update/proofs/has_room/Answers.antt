@@ -23,10 +23,10 @@ overflow_add-headed_count c =
 pub returns-then-headed_count-m : goal.returns-then-headed_count-m
 returns-then-headed_count-m c =
     let a = c.args in
-    let ls = lines_at a.m.lines a.notice.now a.m.start in
+    let ls = lines_at a.m.header.lines a.notice.now a.m.header.start in
     let count = length (merged_by a.old.now a.plan a.marks.now ls) in
     let most = merged_most a.old.now a.plan a.marks.now ls in
-    let few = length_lines a.m.lines a.notice.now a.m.start in
+    let few = length_lines a.m.header.lines a.notice.now a.m.header.start in
     let n = c.headed_count.ensures in
     let room = c.entries_held-most.ensures in
     sym (le-leb count (held a.len) (omega (arith, most, few, n, c.if-headed_count-m.true, room)))
@@ -35,5 +35,5 @@ pub returns : goal.returns
 returns c =
     let a = c.args in
     let m = c.merge-counted.ensures in
-    let k = answered a.old.now a.plan a.marks.now a.notice.now a.m.start a.m.lines c.requires m.value in
+    let k = answered a.old.now a.plan a.marks.now a.notice.now a.m.header.start a.m.header.lines c.requires m.value in
     ap₂ leb k.0 c.entries_held-most.ensures

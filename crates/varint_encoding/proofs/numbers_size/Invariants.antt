@@ -1,16 +1,10 @@
--- numbers_size meets its contract. The loop's invariant: the numbers passed have an encoding, and the bytes counted and those of
--- the numbers left are all. The measure is the numbers left. Assumes nothing.
-use mathlib.Core.Path.{◌≡◌}
-use Prim.Native.Nat.{◌+◌, ◌-◌, ◌*◌, ◌≤◌}
-use lib.ListN.{length, drop}
+-- numbers_size: the numbers so far have an encoding, and their bytes are counted. Assumes nothing.
+use Rattle.std.proofs.Common.{◌≡◌, ◌*◌, ◌≤◌, true, length, take}
 use Rattle.varint_encoding.specs.Several.{encode_all, encodable_all}
 use Rattle.varint_encoding.proofs.numbers_size.Given as goal
 
-abbrev pub invariant-loop-i : goal.invariant-loop-i
-invariant-loop-i l =
-    (encodable_all l.numbers ≡ encodable_all (drop l.i l.numbers))
-    × (l.size + length (encode_all (drop l.i l.numbers)) ≡ length (encode_all l.numbers))
-    × (l.size ≤ 9 * l.i)
-
-abbrev pub decreases-loop-i : goal.decreases-loop-i
-decreases-loop-i l = length l.numbers - l.i
+abbrev pub invariant-loop-n : goal.invariant-loop-n
+invariant-loop-n l =
+    (encodable_all (take l.n-index l.numbers) ≡ true)
+    × (l.size ≡ length (encode_all (take l.n-index l.numbers)))
+    × (l.size ≤ 9 * l.n-index)

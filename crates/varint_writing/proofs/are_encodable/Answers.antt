@@ -1,24 +1,11 @@
--- are_encodable meets its contract. The loop's invariant: the numbers passed have an encoding. The measure is the numbers left.
--- Assumes nothing.
-use mathlib.Core.Path.{refl, sym, ◌∙◌}
-use native.Mathlib.Omega.{arith}
-use Rattle.varint_encoding.proofs.Several.{turn_all, turn_none, rests}
+-- are_encodable meets its contract. Assumes nothing.
+use Rattle.std.proofs.Common.{rules, tests}
+use Rattle.std.proofs.lemmas.Iterator.{YieldsList-from_slice}
+use Rattle.std.proofs.lemmas.Iterator.Search.{all_from_yields_List}
+use Rattle.varint_encoding.specs.Encoding.{encodable}
+use Rattle.varint_encoding.specs.Several.{encodable_all}
 use Rattle.varint_writing.proofs.are_encodable.Goals as goal
 
-pub loop-i-init : goal.loop-i-init
-loop-i-init c = refl
-
-pub returns-then-numbers-i-ge-TOO_LARGE : goal.returns-then-numbers-i-ge-TOO_LARGE
-returns-then-numbers-i-ge-TOO_LARGE c =
-    let l = c.loop-i in
-    sym (l.invariant ∙ turn_none _ l.i (omega arith) c.if-numbers-i-ge-TOO_LARGE.true)
-
-pub loop-i-preserved : goal.loop-i-preserved
-loop-i-preserved c =
-    let l = c.loop-i in
-    l.invariant ∙ turn_all _ l.i (omega arith) (omega arith)
-
 pub returns : goal.returns
-returns c =
-    let l = c.loop-i in
-    sym (l.invariant ∙ (rests _ l.i (omega arith)).0)
+unfolding encodable_all
+returns c = all_from_yields_List encodable _ _ _ c.all.ensures.ran (YieldsList-from_slice c.args.numbers.now cc) (λ x b q k. search (rules, tests))

@@ -1,2 +1,0 @@
--- The laws of effective days.
-pub mod DayLaws
