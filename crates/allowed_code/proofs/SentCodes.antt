@@ -1,8 +1,7 @@
 -- The key of an allowed code sent as a count of digits and a value: a code's key whose first digit is not 0 and which has a
 -- country. Assumes nothing.
-use Rattle.std.proofs.Common.{◌≡◌, refl, ap, sym, ◌∙◌, Bool, true, false, cond, not, ◌&&◌, ◌||◌, ℕ, ◌*◌, ◌≤◌, ◌<◌, leb, ltb, length, Result, Ok, Err, Some, None, arith}
+use Rattle.std.proofs.Common.{◌≡◌, refl, ap, sym, ◌∙◌, Bool, true, false, cond, not, ◌&&◌, ◌||◌, ℕ, ◌*◌, ◌≤◌, leb, ltb, length, Result, Ok, Err, arith}
 use Rattle.std.specs.Option.{is_some}
-use Rattle.std.proofs.lemmas.Bool.{lt-ltb, le-ltb}
 use Rattle.std.proofs.lemmas.Bool.Decides.{nat_tests}
 use Rattle.refusal.specs.declared.Refusal.{Refusal}
 use Rattle.refusal.specs.declared.Refusal.TheVariants.{CodeNotAllowed, OutOfRange}
@@ -45,17 +44,3 @@ module _ (count v : ℕ) where
           ≡ (cond t (Ok (key (digits count v))) (Err OutOfRange) >>= allowed)
       go true w = rw (sent_number count v w, long_test w) (allowed_by (key (digits count v)))
       go false w = refl
-
-  -- so by what the code's key shows
-  pub unwritten : (e : Refusal) → code_key count v ≡ Err e → sent_code_key count v ≡ Err e
-  unwritten e q = by_key ∙ rw q
-
-  module _ (k : ℕ) (q : code_key count v ≡ Ok k) where
-    pub first_zero : k < 2 * first_place → sent_code_key count v ≡ Err CodeNotAllowed
-    first_zero l = by_key ∙ rw (q, lt-ltb k (2 * first_place) l)
-
-    pub no_country : country_of_key k ≡ None → sent_code_key count v ≡ Err CodeNotAllowed
-    no_country e = by_key ∙ rw (q, e) (grind (arith, nat_tests))
-
-    pub some_country : (n : ℕ) → 2 * first_place ≤ k → country_of_key k ≡ Some n → sent_code_key count v ≡ Ok k
-    some_country n l e = by_key ∙ rw (q, e, le-ltb k (2 * first_place) l)

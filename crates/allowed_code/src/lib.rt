@@ -30,7 +30,8 @@ pub fn is_code_key_after(key: u64, word: u64) -> bool
     }
 }
 
-// The key of an allowed code sent as a count of digits and a value, or that one is outside its range, or that it is not allowed.
+// The key of an allowed code sent as a count of digits and a value, or that one is outside its range, or that it is not allowed. A
+// number sent so (`dialled_number`) has another test and another refusal.
 #[tactic(auto, using(crate::proofs::SentCodes::by_key))]
 pub fn sent_code_key(count: u64, value: u64) -> Result<u64, Refusal>
     ensures { result ≡ sent_code_key count value }

@@ -13,7 +13,7 @@ use rating::Call;
 use refusal::Refusal;
 
 #[repr(C)]
-#[derive(Clone, Copy, PartialEq, Eq)]
+#[derive(Clone, Copy, PartialEq, Eq, Default)]
 pub struct RateBookApplied {
     pub refusal: u64,
     pub entries: u64,
@@ -23,7 +23,7 @@ pub struct RateBookApplied {
 
 // `status` is 0 for closed, 1 for blocked, 2 for open; rate and increments are 0 unless it is open.
 #[repr(C)]
-#[derive(Clone, Copy, PartialEq, Eq)]
+#[derive(Clone, Copy, PartialEq, Eq, Default)]
 pub struct RateBookOffer {
     pub refusal: u64,
     pub key: u64,
@@ -34,7 +34,7 @@ pub struct RateBookOffer {
 }
 
 #[repr(C)]
-#[derive(Clone, Copy, PartialEq, Eq)]
+#[derive(Clone, Copy, PartialEq, Eq, Default)]
 pub struct RateBookCall {
     pub refusal: u64,
     pub key: u64,
@@ -43,7 +43,7 @@ pub struct RateBookCall {
 }
 
 #[repr(C)]
-#[derive(Clone, Copy, PartialEq, Eq)]
+#[derive(Clone, Copy, PartialEq, Eq, Default)]
 pub struct RateBookBatch {
     pub refusal: u64,
     pub rated: u64,
@@ -52,14 +52,14 @@ pub struct RateBookBatch {
 }
 
 #[repr(C)]
-#[derive(Clone, Copy, PartialEq, Eq)]
+#[derive(Clone, Copy, PartialEq, Eq, Default)]
 pub struct RateBookList {
     pub refusal: u64,
     pub length: u64,
 }
 
 #[repr(C)]
-#[derive(Clone, Copy, PartialEq, Eq)]
+#[derive(Clone, Copy, PartialEq, Eq, Default)]
 pub struct RateBookCell {
     pub refusal: u64,
     pub count: u64,
@@ -67,7 +67,7 @@ pub struct RateBookCell {
 
 // `rest` is where the part of the cell still to be read begins.
 #[repr(C)]
-#[derive(Clone, Copy, PartialEq, Eq)]
+#[derive(Clone, Copy, PartialEq, Eq, Default)]
 pub struct RateBookCellEntry {
     pub refusal: u64,
     pub count: u64,
@@ -80,7 +80,7 @@ pub fn number_or_zero(answer: Result<(), Refusal>) -> u64
 {
     match answer {
         Ok(()) => 0,
-        Err(e) => e.number(),
+        Err(e) => u64::from(e),
     }
 }
 
@@ -96,10 +96,8 @@ impl From<Result<Applied, Refusal>> for RateBookApplied {
                 latest: a.latest,
             },
             Err(e) => RateBookApplied {
-                refusal: e.number(),
-                entries: 0,
-                received: 0,
-                latest: 0,
+                refusal: u64::from(e),
+                ..Self::default()
             },
         }
     }
@@ -134,12 +132,8 @@ impl From<Result<Answer, Refusal>> for RateBookOffer {
         match found {
             Ok(answer) => RateBookOffer::from(answer),
             Err(e) => RateBookOffer {
-                refusal: e.number(),
-                key: 0,
-                status: 0,
-                rate: 0,
-                first: 0,
-                next: 0,
+                refusal: u64::from(e),
+                ..Self::default()
             },
         }
     }
@@ -157,10 +151,9 @@ impl From<Call> for RateBookCall {
                 charge: charged.amount,
             },
             Err(e) => RateBookCall {
-                refusal: e.number(),
+                refusal: u64::from(e),
                 key: call.key,
-                seconds: 0,
-                charge: 0,
+                ..Self::default()
             },
         }
     }
@@ -178,10 +171,8 @@ impl From<Result<Batch, Refusal>> for RateBookBatch {
                 total: b.total,
             },
             Err(e) => RateBookBatch {
-                refusal: e.number(),
-                rated: 0,
-                refused: 0,
-                total: 0,
+                refusal: u64::from(e),
+                ..Self::default()
             },
         }
     }
@@ -197,8 +188,8 @@ impl From<Result<usize, Refusal>> for RateBookList {
                 length: length as u64,
             },
             Err(e) => RateBookList {
-                refusal: e.number(),
-                length: 0,
+                refusal: u64::from(e),
+                ..Self::default()
             },
         }
     }
@@ -211,8 +202,8 @@ impl From<Result<u64, Refusal>> for RateBookCell {
         match written {
             Ok(count) => RateBookCell { refusal: 0, count },
             Err(e) => RateBookCell {
-                refusal: e.number(),
-                count: 0,
+                refusal: u64::from(e),
+                ..Self::default()
             },
         }
     }

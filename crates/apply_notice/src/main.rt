@@ -19,7 +19,7 @@ impl fmt::Display for Outcome {
     fn fmt<W: fmt::Write>(&self, f: &mut fmt::Formatter<W>) -> fmt::Result {
         match self.0 {
             Ok(a) => write!(f, "0 {} {} {}", a.entries, a.received, a.latest),
-            Err(e) => write!(f, "{} 0 0 0", e.number()),
+            Err(e) => write!(f, "{} 0 0 0", u64::from(e)),
         }
     }
 }

@@ -3,7 +3,7 @@ use mathlib.Core.Path.{◌≡◌, refl, ap, sym, ◌∙◌}
 use mathlib.Core.Bool.{Bool, true, false, cond, ◌&&◌}
 use Rattle.std.proofs.Common.{Option, Some, None, unwrap_or}
 use mathlib.Core.List.{List}
-use Prim.Native.Nat.{ℕ, ◌+◌, ◌-◌, ◌*◌, ◌≤◌}
+use Prim.Native.Nat.{ℕ, ◌+◌, ◌-◌, ◌*◌, ◌/◌, ◌≤◌, min}
 use native.Mathlib.Omega.{arith}
 use borrow.Author.Tests.{le-leb, leb-true}
 use lib.Dec.{leb}
@@ -98,6 +98,11 @@ module _ (ws : List ℕ) where
       (λ n. (unwrap_or n 0 * entry_words ≤ length ws - header_words) × (unwrap_or n 0 ≤ most_entries))
       (λ l s. let h = headed ws l s in (omega (arith, h.room), h.count_most))
       (omega arith, omega arith)
+
+  -- There are words for all of them.
+  pub all_counted : entries_from ws header_words (min (headed_count ws) ((length ws - header_words) / entry_words))
+      ≡ entries_from ws header_words (headed_count ws)
+  all_counted = ap (entries_from ws header_words) (omega (arith, count_room))
 
 -- A book by the steps of the code: a header that counts no entries; entries that are not sound; unused words.
 pub no_count : (ws : List ℕ) → counted ws ≡ None → sound ws ≡ false

@@ -1,6 +1,5 @@
 -- The laws of books: their words, soundness and statuses.
 pub mod Rules
-pub mod SoundRows
 pub mod Headers
 pub mod FreshBooks
 pub mod SoundLists

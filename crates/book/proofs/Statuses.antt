@@ -10,7 +10,7 @@ use lib.ListN.{length}
 use Rattle.allowed_code.specs.Code.{is_code_key}
 use Rattle.dial_code.proofs.Tests.{and_left_true, and_left_false, and_right_false}
 use Rattle.calendar.specs.Time.{last_day}
-use Rattle.rate.specs.OfferWord.{offer_of, word_of}
+use Rattle.rate.specs.OfferWord.{in_range, offer_of, word_of}
 use Rattle.rate.specs.declared.Offer.{Offer}
 use Rattle.rate.proofs.Words.{only_word}
 use Rattle.book.specs.Soundness.{is_offer_word}
@@ -194,3 +194,12 @@ module _ (es : List Entry) (x d : ℕ) (s : Sound es) where
 
   pub offer_word : word_of (offer_in es x d) ≡ status_in es x d
   offer_word = (only_word (status_in es x d) (offer_in es x d) offer_held).0
+
+-- What any word stands for is in range.
+pub held_in_range : (w : ℕ) → in_range (held_offer (offer_of w)) ≡ true
+unfolding in_range
+held_in_range w = go (offer_of w) refl
+  where
+    go : (s : Option Offer) → offer_of w ≡ s → in_range (held_offer s) ≡ true
+    go (Some o) e = (only_word w o e).1
+    go None e = refl

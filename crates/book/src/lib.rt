@@ -8,7 +8,7 @@ ghost use Rattle.book_words.specs.Layout.{header_words, most_entries, entries_fr
 ghost use Rattle.book.specs.Soundness.{in_range, begins, follows, sound_entries, all_zero, sound_header, counted, headed_count, sound};
 ghost use Rattle.book.specs.Answers.{fresh_answer, fresh_words, check_book};
 
-use book_words::{ENTRY_WORDS, Entry, HEADER_WORDS, Header};
+use book_words::{ENTRY_WORDS, Entries, Entry, HEADER_WORDS, Header};
 use calendar::Day;
 use rate::Offer;
 use refusal::Refusal;
@@ -23,7 +23,8 @@ fn in_range(e: Entry) -> bool
     Day(e.day).in_range() && Offer::try_from(e.offer).is_ok()
 }
 
-// Whether an entry's day and offer can be the first of a code: in range, and not closed.
+// Whether an entry's day and offer can be the first of a code: in range, and not closed. Closed is the word 0: the words of a book
+// may be any, and so may those of its rules.
 fn can_open(e: Entry) -> bool
     ensures { result ≡ (not (eqb e.offer 0) && in_range e) }
 {
@@ -50,31 +51,29 @@ fn can_follow(e: Entry, f: Entry) -> bool
     e.key < f.key && can_open(f) && allowed_code::is_code_key_after(e.key, f.key)
 }
 
-// Whether the first entries are sound, each read once and held against the one before it.
-fn are_sound(words: &[u64], count: usize) -> bool
-    requires { count ≤ most_entries }
-    ensures { result ≡ sound_entries (entries_from words.now header_words count) }
+// Whether some entries are sound, each read once and held against the one before it.
+#[tactic(auto, unfolding(crate::specs::Soundness::sound_entries, crate::specs::Soundness::sound_after), using(crate::proofs::SoundLists::begins_facts, crate::proofs::SoundLists::follows_facts))]
+fn are_sound(entries: Entries) -> bool
+    ensures { result ≡ sound_entries entries.entry }
 {
-    if count == 0 {
+    let mut rest = entries;
+    let Some(first) = rest.next() else {
         return true;
-    }
-    let mut before = book_words::entry_at(words, HEADER_WORDS as u32);
-    if !can_begin(before) {
+    };
+    if !can_begin(first) {
         return false;
     }
-    let mut at = (HEADER_WORDS + ENTRY_WORDS) as u32;
-    for _ in 1..count {
-        let e = book_words::entry_at(words, at);
+    let mut before = first;
+    for e in rest {
         if !can_follow(before, e) {
             return false;
         }
         before = e;
-        at += ENTRY_WORDS as u32;
     }
     true
 }
 
-// Whether every word is 0.
+// Whether every word is 0. A cell's blanks are told likewise, a line each.
 #[tactic(auto, unfolding(crate::specs::Soundness::all_zero))]
 fn is_clear(words: &[u64]) -> bool
     ensures { result ≡ all_zero words.now }
@@ -106,12 +105,23 @@ fn counted(words: &[u64]) -> Option<usize>
     Some(h.count as usize)
 }
 
-// How many entries the header counts: none where it is not sound.
+// How many entries the header counts: none where it is not sound, as the rule has it, so that a walk over them goes over none.
 #[tactic(auto, unfolding(crate::specs::Soundness::headed_count))]
 pub fn headed_count(words: &[u64]) -> usize
     ensures { result ≡ headed_count words.now }
 {
     counted(words).unwrap_or(0)
+}
+
+// The entries that the header counts, where it is sound.
+#[tactic(auto, using(crate::proofs::Headers::all_counted), unfolding(crate::specs::Soundness::headed_count))]
+pub fn entries(words: &[u64]) -> Entries
+    ensures { result ≡ entries_from words.now header_words (headed_count words.now) }
+{
+    match counted(words) {
+        Some(count) => Entries::of(words, count),
+        None => Entries::of(words, 0),
+    }
 }
 
 // Whether a book is sound, in one pass over its words.
@@ -122,7 +132,7 @@ fn is_sound(words: &[u64]) -> bool
     let Some(count) = counted(words) else {
         return false;
     };
-    are_sound(words, count) && is_clear(&words[HEADER_WORDS + count * ENTRY_WORDS..])
+    are_sound(Entries::of(words, count)) && is_clear(&words[HEADER_WORDS + count * ENTRY_WORDS..])
 }
 
 // Whether a book can be used: 20, then 21.

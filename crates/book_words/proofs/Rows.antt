@@ -1,5 +1,5 @@
 -- Entries by position and count. Assumes nothing.
-use mathlib.Core.Path.{◌≡◌, refl, ap, ap₂, ◌∙◌}
+use mathlib.Core.Path.{◌≡◌, refl, ap, ap₂, sym, ◌∙◌}
 use mathlib.Core.List.{List, [], ◌∷◌, map}
 use Prim.Native.Nat.{ℕ, zero, suc, ◌+◌, ◌-◌, ◌*◌, ◌/◌, ◌≤◌, ◌<◌, min}
 use native.Mathlib.Numerals.{sub-one}
@@ -11,6 +11,7 @@ use native.Mathlib.Nat.{add-zero}
 use Rattle.book_words.specs.Layout.{header_words, entry_words, no_entry, count_of, entry, row_entry, entry_at, entries_from, entries_of}
 use Rattle.book_words.specs.declared.Entry.{Entry}
 use Rattle.std.specs.Simd.{first_chunks}
+use Rattle.std.proofs.lemmas.List.{length-map, get_or-map, take-map, take_min}
 
 -- The i-th of some entries, counted from 0.
 abbrev pub entry_in : List Entry → ℕ → Entry
@@ -64,13 +65,35 @@ rows_taken ws at (suc n) (suc k) h =
     ∙ rows_taken ws (at + entry_words) n k (omega arith) in
     ap₂ ◌∷◌ (λ i. entry (a i) (b i) (d i)) e
 
--- The same of the words after the header's.
+-- Rows as entries: how many, the one at a place, the first.
+pub as_many_rows : (rows : List (List ℕ)) → length (map row_entry rows) ≡ length rows
+as_many_rows rows = length-map rows row_entry
+
+pub row_there :
+    (rows : List (List ℕ)) (i : ℕ)
+    → i < length (map row_entry rows)
+    → row_entry (get_or rows i []) ≡ get_or (map row_entry rows) i no_entry
+row_there rows i h =
+    let l : i < length rows = omega (arith, as_many_rows rows) in
+    sym (get_or-map row_entry rows i [] no_entry l)
+
+pub first_rows :
+    (rows : List (List ℕ)) (count k : ℕ)
+    → k ≡ min count (length rows)
+    → map row_entry (take k rows) ≡ take count (map row_entry rows)
+first_rows rows count k e = rw (e, take_min) (sym (take-map row_entry count rows))
+
+-- The words after the header's in threes, and so many of the first entries.
 pub rows_first :
-    (ws s : List ℕ) (rows : List (List ℕ)) (count k : ℕ)
+    (ws s : List ℕ) (rows : List (List ℕ)) (es : List Entry) (count : ℕ)
     → s ≡ drop header_words ws
     → rows ≡ first_chunks entry_words (length s / entry_words) s
-    → k ≡ min count (length s / entry_words)
-    → map row_entry (take k rows) ≡ entries_from ws header_words (min count ((length ws - header_words) / entry_words))
-rows_first ws s rows count k e f g =
-    rw (f, g, e, length-drop header_words ws)
-    (rows_taken ws header_words ((length ws - header_words) / entry_words) (min count ((length ws - header_words) / entry_words)) (omega arith))
+    → length rows ≡ length s / entry_words
+    → es ≡ take count (map row_entry rows)
+    → es ≡ entries_from ws header_words (min count ((length ws - header_words) / entry_words))
+rows_first ws s rows es count e f g h =
+    h
+    ∙ sym (first_rows rows count (min count (length rows)) refl)
+    ∙ rw (g, f, e, length-drop header_words ws)
+    (let n = (length ws - header_words) / entry_words in
+    rows_taken ws header_words n (min count n) (omega arith))

@@ -36,9 +36,6 @@ module _
     {l₀ : List ℕ} {n₀ : ℕ} {all : List Entry} {l : List ℕ} {n : ℕ} {ys : List Entry}
     (p : Writing l₀ n₀ all l n ys)
   where
-    pub writing_same : (zs : List Entry) → ys ≡ zs → Writing l₀ n₀ all l n zs
-    writing_same zs q = rw q at p
-
     -- some entries more
     pub writing_on :
         (xs rest : List Entry) {m : List ℕ} (k : ℕ)

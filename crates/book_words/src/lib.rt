@@ -1,11 +1,11 @@
 // The words of a book (document 01, "The book"): its header and its entries, read and written at any place of any words.
 #![tactic(auto)]
 
-ghost use Rattle.std.specs.Prelude.{◌≡◌, List, [], ◌∷◌, map, ◌-◌, ◌/◌, min, length, get_or, drop, replicate, MatchOption};
+ghost use Rattle.std.specs.Prelude.{◌≡◌, List, [], ◌∷◌, map, ◌-◌, ◌/◌, ◌<◌, min, length, get_or, take, drop, replicate, MatchOption};
 ghost use Rattle.std.proofs.lemmas.List.Edits.{sets};
 ghost use Rattle.std.specs.Iterator.{YieldsFirst, item_count};
 ghost use Rattle.book_words.specs.declared.Entry.{Entry};
-ghost use Rattle.book_words.specs.Layout.{header_words, entry_words, header_of, words_of_header, entry_at, row_entry, entries_from, held};
+ghost use Rattle.book_words.specs.Layout.{header_words, entry_words, no_entry, header_of, words_of_header, entry_at, row_entry, entries_from, held};
 
 use std::marker::Model;
 
@@ -65,6 +65,15 @@ impl<'a> Model for Entries<'a> {
     ghost view = { λ e. map row_entry e.rows.now };
 }
 
+// The entries of rows.
+impl<'a> From<&'a [[u64; ENTRY_WORDS]]> for Entries<'a> {
+    ghost from_gives = { λ rows entries. entries ≡ map row_entry rows.now };
+
+    fn from(rows: &'a [[u64; ENTRY_WORDS]]) -> Self {
+        Entries { rows }
+    }
+}
+
 impl<'a> Entries<'a> {
     // The first entries of a book's words: so many, or as many as there are words for.
     #[tactic(auto, using(crate::proofs::Rows::rows_first))]
@@ -72,8 +81,30 @@ impl<'a> Entries<'a> {
         ensures { result ≡ entries_from words.now header_words (min count ((length words.now - header_words) / entry_words)) }
     {
         let (rows, _) = after_header(words).as_chunks();
+        Entries::from(rows).first(count)
+    }
+
+    // How many there are.
+    pub fn len(&self) -> usize
+        ensures { result ≡ length self.now }
+    {
+        self.rows.len()
+    }
+
+    // Their words, a row for each.
+    pub fn rows(&self) -> &'a [[u64; ENTRY_WORDS]]
+        ensures { map row_entry result.now ≡ self.now }
+    {
+        self.rows
+    }
+
+    // So many of the first, or all.
+    #[tactic(auto, using(crate::proofs::Rows::first_rows))]
+    pub fn first(self, count: usize) -> Self
+        ensures { result ≡ take count self.entry }
+    {
         Entries {
-            rows: &rows[..count.min(rows.len())],
+            rows: &self.rows[..count.min(self.rows.len())],
         }
     }
 
@@ -82,6 +113,13 @@ impl<'a> Entries<'a> {
         ensures { MatchOption result (self.now ≡ []) (λ e. self.now ≡ e ∷ drop 1 self.now) }
     {
         self.rows.first().copied().map(Entry::from)
+    }
+
+    // The last, which stays.
+    pub fn peek_back(&self) -> Option<Entry>
+        ensures { MatchOption result (self.now ≡ []) (λ e. (0 < length self.now) × (e ≡ get_or self.now (length self.now - 1) no_entry)) }
+    {
+        self.rows.last().copied().map(Entry::from)
     }
 }
 
@@ -106,19 +144,12 @@ fn word_at(words: &[u64], at: usize) -> u64
     words.get(at).copied().unwrap_or(0)
 }
 
-// The entry that starts at a place; words past the end count as 0. A place of 32 bits has one test and no end of its own.
+// The entry that starts at a place; words past the end count as 0.
 #[tactic(auto, unfolding(crate::specs::Layout::entry_at))]
 pub fn entry_at(words: &[u64], at: u32) -> Entry
     ensures { result ≡ entry_at words.now at }
 {
     let from = at as usize;
-    if let Some([key, day, offer]) = words.get(from..from + ENTRY_WORDS) {
-        return Entry {
-            key: *key,
-            day: *day,
-            offer: *offer,
-        };
-    }
     Entry {
         key: word_at(words, from),
         day: word_at(words, from + DAY_WORD),
@@ -136,7 +167,7 @@ fn put_word(words: &mut [u64], at: usize, word: u64)
     }
 }
 
-// The header words.
+// The header words, four by name: plainer than a `From` for an array that a slice may be too short for.
 pub fn header_of(words: &[u64]) -> Header
     ensures { result ≡ header_of words.now }
 {

@@ -21,6 +21,7 @@ impl Day {
         self <= Day::LAST
     }
 
+    // One comparison, as plain as a call with the last day would be.
     pub fn can_be_received(self) -> bool
         ensures { result ≡ is_received_day self }
     {

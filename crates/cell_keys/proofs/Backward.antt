@@ -1,27 +1,32 @@
--- A cell's entries from the last to the first: they name the same keys. Assumes nothing.
+-- A walk over a cell's entries from the first on, and from the last: its ranges have the same keys. Assumes nothing.
 -- Two rising lists that hold the same are the same.
-use mathlib.Core.Path.{◌≡◌, refl, ap, ap₂, sym, subst, ◌∙◌}
-use mathlib.Core.Bool.{Bool, true, false, false≢true, cond, ◌||◌}
-use mathlib.Core.List.{List, [], ◌∷◌, ◌++◌, append_assoc, append-nil}
+use mathlib.Core.Path.{◌≡◌, refl, ap, ap₂, sym, ◌∙◌}
+use mathlib.Core.Bool.{Bool, true, false, false≢true, ◌||◌}
+use mathlib.Core.List.{List, [], ◌∷◌, ◌++◌, reverse, reverse_aux}
 use Prim.Native.Nat.{ℕ, ◌≤◌}
 use native.Mathlib.Omega.{arith}
-use borrow.Author.Tests.{eq-eqb, ne_eqb, ltb-false}
-use lib.Dec.{ltb}
-use lib.ListN.{length, take}
-use lib.Seq.{sets, length-sets}
+use borrow.Author.Tests.{eq-eqb, ne_eqb}
+use lib.ListN.{length}
 use Rattle.dial_code.proofs.Tests.{below, equal, above, order}
 use Rattle.code_entry.specs.Range.{range_keys}
 use Rattle.code_entry.specs.declared.CodeRange.{CodeRange}
 use Rattle.code_cell.specs.Cell.{insert_all}
 use Rattle.code_cell.specs.Count.{good_ranges, outcome, all_keys}
 use Rattle.code_cell.specs.Rising.{Above, Rising, holds}
-use Rattle.code_cell.proofs.Inserts.{all_rising, all_longer, above_less}
+use Rattle.code_cell.proofs.Inserts.{all_rising, above_less}
 use Rattle.code_cell.proofs.Members.{holds_all, above_out, or_false}
-use Rattle.cell_keys.proofs.Writes.{take_front, sets_over}
-use Rattle.refusal.specs.declared.Refusal.TheVariants.{KeysTooMany}
-use Rattle.refusal.specs.Steps.{◌>>=◌}
+use Rattle.code_cell.proofs.Marks.{or_join}
+use Rattle.code_cell.specs.Reading.{names_left, ranges_left, GivesFirst, GivesLast}
+use Rattle.code_cell.specs.declared.Entries.{Entries}
+use Rattle.cell_keys.proofs.Writes.{keys_rise}
+use Rattle.std.specs.Iterator.{AlwaysYields, Drains, HoldsAlong}
+use Rattle.std.specs.Iterator.Adapters.{rev_source, rev_steps}
+use Rattle.std.specs.declared.iter.Rev.{Rev}
+use Rattle.std.proofs.iter.Yields.{listed, gives_along, gives_Drains}
+use Rattle.std.proofs.lemmas.List.{reverse-append}
 use Rattle.refusal.specs.declared.Refusal.{Refusal}
-use Rattle.std.proofs.Common.{Result, Ok, Err}
+use Rattle.std.proofs.Common.{Result, Ok, Err, Option, ⊎_elim, map-id}
+use Rattle.code_cell.proofs.Decisions.{keys_longer}
 
 first_held : (x : ℕ) (xs : List ℕ) → holds x (x ∷ xs) ≡ true
 first_held x xs = rw (eq-eqb x x refl)
@@ -53,11 +58,11 @@ rising_unique (x ∷ xs) (y ∷ ys) r s h =
     ]
 
 -- The keys of ranges, the last range first.
-abbrev pub back_keys : List CodeRange → List ℕ
+abbrev back_keys : List CodeRange → List ℕ
 back_keys [] = []
 back_keys (r ∷ rs) = insert_all (range_keys r) (back_keys rs)
 
-pub back_rising : (rs : List CodeRange) → Rising (back_keys rs)
+back_rising : (rs : List CodeRange) → Rising (back_keys rs)
 back_rising [] = tt
 back_rising (r ∷ rs) = all_rising (range_keys r) (back_keys rs) (back_rising rs)
 
@@ -69,136 +74,94 @@ back_holds : (rs : List CodeRange) (k : ℕ) → holds k (back_keys rs) ≡ any_
 back_holds [] k = refl
 back_holds (r ∷ rs) k = holds_all k (range_keys r) (back_keys rs) ∙ ap (λ (b : Bool). holds k (range_keys r) || b) (back_holds rs k)
 
-or_move : (a b c : Bool) → (a || (b || c)) ≡ ((b || a) || c)
-or_move true true c = refl
-or_move true false c = refl
-or_move false true c = refl
-or_move false false c = refl
-
 forth_holds : (rs : List CodeRange) (l : List ℕ) (k : ℕ) → holds k (all_keys l rs) ≡ (any_holds rs k || holds k l)
 unfolding all_keys
 forth_holds [] l k = refl
 forth_holds (r ∷ rs) l k =
     forth_holds rs (insert_all (range_keys r) l) k
     ∙ ap (λ (b : Bool). any_holds rs k || b) (holds_all k (range_keys r) l)
-    ∙ or_move (any_holds rs k) (holds k (range_keys r)) (holds k l)
-
-forth_rising : (rs : List CodeRange) (l : List ℕ) → Rising l → Rising (all_keys l rs)
-unfolding all_keys
-forth_rising [] l s = s
-forth_rising (r ∷ rs) l s = forth_rising rs (insert_all (range_keys r) l) (all_rising (range_keys r) l s)
+    ∙ or_join (any_holds rs k) (holds k (range_keys r)) (holds k l)
 
 pub either_way : (rs : List CodeRange) → back_keys rs ≡ all_keys [] rs
 either_way rs =
-    rising_unique (back_keys rs) (all_keys [] rs) (back_rising rs) (forth_rising rs [] tt)
+    rising_unique (back_keys rs) (all_keys [] rs) (back_rising rs) (keys_rise rs [] tt)
     (λ k. back_holds rs k ∙ sym (forth_holds rs [] k ∙ or_false (any_holds rs k)))
 
--- A cell that is not refused has no refused entry, and its keys are those of its ranges.
-abbrev pub AllGood : List (Result CodeRange Refusal) → Type 0
-AllGood [] = Unit
-AllGood (Ok r ∷ ns) = AllGood ns
-AllGood (Err e ∷ ns) = ⊥
+turned_keys : (rs acc : List CodeRange) → all_keys [] (reverse_aux rs acc) ≡ all_keys (back_keys rs) acc
+unfolding all_keys
+turned_keys [] acc = refl
+turned_keys (r ∷ rs) acc = turned_keys rs (r ∷ acc)
 
-pub good_front : (ms ns : List (Result CodeRange Refusal)) → AllGood (ms ++ ns) → AllGood ns
-good_front [] ns a = a
-good_front (Ok r ∷ ms) ns a = good_front ms ns a
-good_front (Err q ∷ ms) ns a = absurd a
+-- Where no entry is refused, what they name, the last first.
+turned : (ns ms : List (Result CodeRange Refusal)) → outcome ns ≡ Ok tt → good_ranges (reverse_aux ns ms) ≡ reverse_aux (good_ranges ns) (good_ranges ms)
+unfolding good_ranges outcome
+turned [] ms e = refl
+turned (Ok r ∷ ns) ms e = turned ns (Ok r ∷ ms) e
+turned (Err q ∷ ns) ms e = cc
 
-pub suffix_shorter : (ms ns : List (Result CodeRange Refusal)) → AllGood (ms ++ ns) → length (back_keys (good_ranges ns)) ≤ length (back_keys (good_ranges (ms ++ ns)))
+same_keys : (ns : List (Result CodeRange Refusal)) → outcome ns ≡ Ok tt → all_keys [] (good_ranges (reverse ns)) ≡ all_keys [] (good_ranges ns)
+unfolding good_ranges all_keys
+same_keys ns e = ap (all_keys []) (turned ns [] e) ∙ turned_keys (good_ranges ns) [] ∙ either_way (good_ranges ns)
+
+-- What is given, from the first on and from the last.
+forth : (es : Entries) → AlwaysYields GivesFirst (λ c. c) es (ranges_left es)
 unfolding good_ranges
-suffix_shorter [] ns a = omega arith
-suffix_shorter (Ok r ∷ ms) ns a =
-    omega (arith, suffix_shorter ms ns a, all_longer (range_keys r) (back_keys (good_ranges (ms ++ ns))))
-suffix_shorter (Err q ∷ ms) ns a = absurd a
+forth es = listed GivesFirst (λ c. c) ranges_left (λ s t p. ap length p.1) (λ s c t p. ap good_ranges p) es
 
-all_good : (ns : List (Result CodeRange Refusal)) → outcome ns ≡ Ok tt → AllGood ns
-unfolding outcome
-all_good [] e = tt
-all_good (Ok r ∷ ns) e = all_good ns e
-all_good (Err q ∷ ns) e = cc
+abbrev back_left : Rev Entries → List CodeRange
+back_left es = good_ranges (reverse (names_left (rev_source es)))
 
--- The keys of the entries that are read, from the last on, at the front of the slice.
-pub record Backed (k₀ : List ℕ) (all left : List (Result CodeRange Refusal)) (n : ℕ) (k : List ℕ) : Type 0 where
-  pub done : List (Result CodeRange Refusal)
-  pub parts : all ≡ left ++ done
-  pub counted : n ≡ length (back_keys (good_ranges done))
-  pub words : k ≡ sets k₀ 0 (back_keys (good_ranges done))
+back : (es : Rev Entries) → AlwaysYields (rev_steps GivesLast) (λ c. c) es (back_left es)
+unfolding good_ranges
+back es =
+    listed (rev_steps GivesLast) (λ c. c) back_left
+    (λ s t p.
+    ⊎_elim (λ e. ap (λ ns. length (good_ranges (reverse ns))) e)
+    (λ e. ap (λ ns. length (good_ranges (reverse ns))) e.2 ∙ ap (λ ns. length (good_ranges ns)) (reverse-append e.0 (Err e.1 ∷ []))) p.1)
+    (λ s c t p. ap (λ ns. good_ranges (reverse ns)) p ∙ ap good_ranges (reverse-append (names_left (rev_source t)) (Ok c ∷ []))) es
 
-module _ (k₀ : List ℕ) (all : List (Result CodeRange Refusal)) where
-  pub begun : (left : List (Result CodeRange Refusal)) → left ≡ all → Backed k₀ all left 0 k₀
-  unfolding good_ranges
-  begun left e = record { done = []; parts = sym e ∙ sym (append-nil left); counted = refl; words = refl }
+-- A walk that gives ranges with so many keys: there is room for what it has given at any time, and in the end it comes to them.
+joined : (l : List ℕ) (rs more : List CodeRange) → all_keys l (rs ++ more) ≡ all_keys (all_keys l rs) more
+unfolding all_keys
+joined l [] more = refl
+joined l (r ∷ rs) more = joined (insert_all (range_keys r) l) rs more
 
-  module _ (n : ℕ) (k : List ℕ) where
-    pub written : Backed k₀ all [] n k → (n ≡ length (all_keys [] (good_ranges all))) × (k ≡ sets k₀ 0 (all_keys [] (good_ranges all)))
-    written b =
-        let q : back_keys (good_ranges b.done) ≡ all_keys [] (good_ranges all) =
-        ap (λ (x : List (Result CodeRange Refusal)). back_keys (good_ranges x)) (sym b.parts) ∙ either_way (good_ranges all) in
-        (b.counted ∙ ap length q, b.words ∙ ap (sets k₀ 0) q)
+module _ {S : Type 0} (steps : S → Option CodeRange → S → Type 0) (s : S) (all : List CodeRange) (y : AlwaysYields steps (λ c. c) s all)
+    (ks : List ℕ) (e : all_keys [] all ≡ ks) where
+  fits_by : (room : ℕ) → length ks ≤ room → HoldsAlong steps s (λ rs. length (all_keys [] rs) ≤ room)
+  fits_by room h =
+      gives_along steps (λ c. c) _ all s y
+      (λ rs more p.
+      omega (
+        arith,
+        h,
+        ap length (sym e ∙ ap (all_keys []) (p ∙ ap (λ xs. xs ++ more) (map-id rs)) ∙ joined [] rs more),
+        keys_longer (all_keys [] rs) more,
+      ))
 
-    module _ (left rest : List (Result CodeRange Refusal)) (none : outcome all ≡ Ok tt) (b : Backed k₀ all left n k) where
-      pub never_refused : (q : Refusal) → left ≡ rest ++ (Err q ∷ []) → ⊥
-      never_refused q e =
-          good_front rest (Err q ∷ b.done)
-          (subst AllGood (b.parts ∙ ap (λ (x : List (Result CodeRange Refusal)). x ++ b.done) e ∙ append_assoc rest (Err q ∷ []) b.done) (all_good all none))
+  comes_to : (rs : List CodeRange) → Drains steps s rs → all_keys [] rs ≡ ks
+  comes_to rs d = ap (all_keys []) (sym (map-id rs) ∙ gives_Drains steps (λ c. c) rs all s y d) ∙ e
 
-      module _ (r : CodeRange) (fits : length (all_keys [] (good_ranges all)) ≤ length k₀) (e : left ≡ rest ++ (Ok r ∷ [])) where
-        parts_next : all ≡ rest ++ (Ok r ∷ b.done)
-        parts_next = b.parts ∙ ap (λ (x : List (Result CodeRange Refusal)). x ++ b.done) e ∙ append_assoc rest (Ok r ∷ []) b.done
+module _ (ns : List (Result CodeRange Refusal)) where
+  abbrev keys : List ℕ
+  keys = all_keys [] (good_ranges ns)
 
-        good_next : AllGood (rest ++ (Ok r ∷ b.done))
-        good_next = subst AllGood parts_next (all_good all none)
+  module _ (es : Entries) (n : names_left es ≡ ns) where
+    first_keys : all_keys [] (ranges_left es) ≡ keys
+    first_keys = ap (λ x. all_keys [] (good_ranges x)) n
 
-        abbrev so_far : List ℕ
-        so_far = back_keys (good_ranges b.done)
+    pub from_first_fits : (room : ℕ) → length keys ≤ room → HoldsAlong GivesFirst es (λ rs. length (all_keys [] rs) ≤ room)
+    from_first_fits room h = fits_by GivesFirst es (ranges_left es) (forth es) keys first_keys room h
 
-        enough_room : length (back_keys (good_ranges (Ok r ∷ b.done))) ≤ length k₀
-        enough_room =
-            omega (
-              arith,
-              suffix_shorter rest (Ok r ∷ b.done) good_next,
-              ap (λ (x : List (Result CodeRange Refusal)). length (back_keys (good_ranges x))) parts_next,
-              ap length (either_way (good_ranges all)),
-              fits,
-            )
+    pub from_first_keys : (rs : List CodeRange) → Drains GivesFirst es rs → all_keys [] rs ≡ keys
+    from_first_keys rs d = comes_to GivesFirst es (ranges_left es) (forth es) keys first_keys rs d
 
-        grows : back_keys (good_ranges (Ok r ∷ b.done)) ≡ insert_all (range_keys r) so_far
-        unfolding good_ranges
-        grows = refl
+  module _ (none : outcome ns ≡ Ok tt) (es : Rev Entries) (n : names_left (rev_source es) ≡ ns) where
+    last_keys : all_keys [] (back_left es) ≡ keys
+    last_keys = ap (λ x. all_keys [] (good_ranges (reverse x))) n ∙ same_keys ns none
 
-        room : length so_far ≤ length k₀
-        room = omega (arith, enough_room, ap length grows, all_longer (range_keys r) so_far)
+    pub from_last_fits : (room : ℕ) → length keys ≤ room → HoldsAlong (rev_steps GivesLast) es (λ rs. length (all_keys [] rs) ≤ room)
+    from_last_fits room h = fits_by (rev_steps GivesLast) es (back_left es) (back es) keys last_keys room h
 
-        -- The words that stand there are the keys so far.
-        front : take n k ≡ so_far
-        front = ap (take n) b.words ∙ take_front so_far k₀ n b.counted room
-
-        long : length k ≡ length k₀
-        long = ap length b.words ∙ length-sets k₀ 0 so_far
-
-        pub front_rising : Rising (take n k)
-        front_rising = subst Rising (sym front) (back_rising (good_ranges b.done))
-
-        same_keys : insert_all (range_keys r) (take n k) ≡ back_keys (good_ranges (Ok r ∷ b.done))
-        same_keys = ap (insert_all (range_keys r)) front ∙ sym grows
-
-        pub enough : (n ≤ length k) × (length (insert_all (range_keys r) (take n k)) ≤ length k)
-        enough = (omega (arith, b.counted, room, long), omega (arith, ap length same_keys, long, enough_room))
-
-        -- The slice with the entry's keys.
-        pub on : (n' : ℕ) (k' : List ℕ)
-            → n' ≡ length (insert_all (range_keys r) (take n k))
-            → k' ≡ sets k 0 (insert_all (range_keys r) (take n k))
-            → Backed k₀ all rest n' k'
-        on n' k' f h =
-            record {
-              done = Ok r ∷ b.done;
-              parts = parts_next;
-              counted = f ∙ ap length same_keys;
-              words =
-                  h
-                  ∙ ap (sets k 0) same_keys
-                  ∙ ap (λ (x : List ℕ). sets x 0 (back_keys (good_ranges (Ok r ∷ b.done)))) b.words
-                  ∙ sets_over so_far (back_keys (good_ranges (Ok r ∷ b.done))) k₀
-                  (omega (arith, ap length grows, all_longer (range_keys r) so_far)) enough_room;
-            }
+    pub from_last_keys : (rs : List CodeRange) → Drains (rev_steps GivesLast) es rs → all_keys [] rs ≡ keys
+    from_last_keys rs d = comes_to (rev_steps GivesLast) es (back_left es) (back es) keys last_keys rs d

@@ -30,10 +30,6 @@ same_so x k e = rw (eq-eqb x k e)
 pub same_not : (x k : ℕ) → (x ≡ k → ⊥) → same x k ≡ 0
 same_not x k n = rw (ne_eqb x k n)
 
--- A run of fewer codes.
-pub shorter : (d f n q : ℕ) → Run d f n → 1 ≤ q → q ≤ n → Run d f q
-shorter d f n q r h l = (r.0, r.1, h, omega (arith, r.3))
-
 module _ (d f q : ℕ) (r : Run d f q) where
   keys_split : keys_from d f q ≡ keys_from d f (q - 1) ++ (key_at d (f + (q - 1)) ∷ [])
   keys_split =

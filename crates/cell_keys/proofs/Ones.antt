@@ -14,11 +14,12 @@ use Rattle.code_entry.specs.Codes.{Writable}
 use Rattle.code_entry.specs.Range.{range_keys}
 use Rattle.code_entry.specs.Entry.{entry_of, rest_of, read_entry, own_code}
 use Rattle.code_entry.specs.declared.CodeRange.{CodeRange}
-use Rattle.code_entry.proofs.EntryLaws.{writable, entry_size, rest_drop}
-use Rattle.code_cell.specs.Cell.{insert_all, keys_named, own_keys, entry_keys, checked, how_many, keys_of}
+use Rattle.code_entry.proofs.EntryLaws.{entry_size, rest_drop}
+use Rattle.code_cell.specs.Cell.{insert_all, keys_named, own_keys, entry_keys, checked, how_many}
 use Rattle.code_cell.proofs.Inserts.{all_into_none}
-use Rattle.code_cell.proofs.RangeKeys.{range_keys_law, keys_rising, length_keys}
+use Rattle.code_cell.proofs.RangeKeys.{range_keys_law, keys_rising}
 use Rattle.code_cell.proofs.Names.{read_codes, read_refused}
+use Rattle.code_cell.proofs.Orders.{count_so}
 use Rattle.refusal.specs.declared.Refusal.TheVariants.{KeysTooMany}
 use Rattle.refusal.specs.Steps.{ok_at}
 use Rattle.refusal.specs.declared.Refusal.{Refusal}
@@ -34,16 +35,13 @@ module _ (room : ℕ) (r : CodeRange) (w : Writable r) where
       ∙ all_into_none _ (keys_rising r.digits r.first r.count w.some w.few w.within)
       ∙ sym (range_keys_law r)
 
-  pub count_so : length (range_keys r) ≡ r.count
-  count_so = ap length (range_keys_law r) ∙ length_keys r.digits r.first r.count
-
   pub one_fits : r.count ≤ room → named ≡ Ok (range_keys r)
   unfolding keys_named
-  one_fits h = rw (le-ltb room (length (insert_all (range_keys r) [])) (omega (arith, ap length keys_so, count_so))) (ap Ok keys_so)
+  one_fits h = rw (le-ltb room (length (insert_all (range_keys r) [])) (omega (arith, ap length keys_so, count_so r w))) (ap Ok keys_so)
 
   pub one_full : room < r.count → named ≡ Err KeysTooMany
   unfolding keys_named
-  one_full h = rw (lt-ltb room (length (insert_all (range_keys r) [])) (omega (arith, ap length keys_so, count_so)))
+  one_full h = rw (lt-ltb room (length (insert_all (range_keys r) [])) (omega (arith, ap length keys_so, count_so r w)))
 
 -- A refused entry's own cause.
 pub one_refused : (room : ℕ) (q : Refusal) → keys_named room [] (Err q ∷ []) ≡ Err q
@@ -104,9 +102,6 @@ module _ (c s : List ℕ) (room : ℕ) where
     pub entry_so : entry_keys c s room ≡ keys_named room [] (Ok r ∷ [])
     unfolding entry_keys
     entry_so = ap (λ (n : Result CodeRange Refusal). keys_named room [] (n ∷ [])) (read_codes c s r m e).0
-
-    pub entry_writable : Writable r
-    entry_writable = writable c (entry_of s) r (read_codes c s r m e).0
 
     pub entry_within : m ≤ length s
     entry_within = omega (arith, (read_codes c s r m e).1, entry_size s)

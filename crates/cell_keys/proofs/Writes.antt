@@ -4,20 +4,14 @@ use mathlib.Core.Path.{◌≡◌, refl, ap, sym, subst, ◌∙◌}
 use mathlib.Core.List.{List, [], ◌∷◌, ◌++◌}
 use Prim.Native.Nat.{ℕ, ◌+◌, ◌-◌, ◌≤◌}
 use native.Mathlib.Omega.{arith}
-use borrow.Author.Tests.{ltb-false}
-use lib.Dec.{ltb}
 use lib.ListN.{length, take, drop}
 use lib.Seq.{sets, sets-eq, length-sets, take-append_seam, drop-append-add, drop-drop}
 use Rattle.code_entry.specs.Range.{range_keys}
 use Rattle.code_entry.specs.declared.CodeRange.{CodeRange}
 use Rattle.code_cell.specs.Cell.{insert_all}
 use Rattle.code_cell.specs.Count.{all_keys}
-use Rattle.code_cell.proofs.Decisions.{keys_longer}
 use Rattle.code_cell.specs.Rising.{Rising}
 use Rattle.code_cell.proofs.Inserts.{all_rising, all_longer}
-use Rattle.refusal.specs.declared.Refusal.TheVariants.{KeysTooMany}
-use Rattle.refusal.specs.declared.Refusal.{Refusal}
-use Rattle.std.proofs.Common.{Result, Ok, Err}
 
 sets_front : (l k : List ℕ) → length l ≤ length k → sets k 0 l ≡ l ++ drop (length l) k
 sets_front l k h =
@@ -37,79 +31,65 @@ sets_over l m k h g =
     ∙ ap (λ (x : List ℕ). m ++ x) ((rw z at d) ∙ drop-drop (length m - length l) (length l) k ∙ ap (λ (i : ℕ). drop i k) z)
     ∙ sym (sets_front m k g)
 
--- None of the keys so far is lost.
-room_for :
-    (room : ℕ) (l : List ℕ) (r : CodeRange) (rs : List CodeRange)
-    → length (all_keys l (r ∷ rs)) ≤ room
-    → length (insert_all (range_keys r) l) ≤ room
+-- The keys of ranges with one more; and they rise.
+keys_more : (l : List ℕ) (rs : List CodeRange) (r : CodeRange) → all_keys l (rs ++ (r ∷ [])) ≡ insert_all (range_keys r) (all_keys l rs)
 unfolding all_keys
-room_for room l r rs h = omega (arith, keys_longer (insert_all (range_keys r) l) rs)
+keys_more l [] r = refl
+keys_more l (x ∷ rs) r = keys_more (insert_all (range_keys x) l) rs r
 
--- The keys of the ranges that are read, at the front of the slice; those left go on from there.
-pub record Written (k₀ : List ℕ) (all left : List CodeRange) (n : ℕ) (k : List ℕ) : Type 0 where
-  pub so_far : List ℕ
-  pub counted : n ≡ length so_far
-  pub rising : Rising so_far
-  pub room : length so_far ≤ length k₀
-  pub words : k ≡ sets k₀ 0 so_far
-  pub goes_on : all_keys so_far left ≡ all_keys [] all
+pub keys_rise : (rs : List CodeRange) (l : List ℕ) → Rising l → Rising (all_keys l rs)
+unfolding all_keys
+keys_rise [] l s = s
+keys_rise (r ∷ rs) l s = keys_rise rs (insert_all (range_keys r) l) (all_rising (range_keys r) l s)
 
-module _ (k₀ : List ℕ) (all : List CodeRange) where
-  pub begun : (left : List CodeRange) → left ≡ all → Written k₀ all left 0 k₀
-  begun left e =
-      record {
-        so_far = [];
-        counted = refl;
-        rising = tt;
-        room = omega arith;
-        words = refl;
-        goes_on = ap (all_keys []) e;
-      }
+-- The keys of the ranges that were read stand at the front of the slice.
+abbrev pub Written : List ℕ → List CodeRange → ℕ → List ℕ → Type 0
+Written k₀ rs n k = (n ≡ length (all_keys [] rs)) × (k ≡ sets k₀ 0 (all_keys [] rs))
 
-  module _ (n : ℕ) (k : List ℕ) where
-    pub written : Written k₀ all [] n k → (n ≡ length (all_keys [] all)) × (k ≡ sets k₀ 0 (all_keys [] all))
-    unfolding all_keys
-    written w = (w.counted ∙ ap length w.goes_on, w.words ∙ ap (sets k₀ 0) w.goes_on)
+pub begun : (k₀ : List ℕ) → Written k₀ [] 0 k₀
+unfolding all_keys
+begun k₀ = (refl, refl)
 
-    module _ (r : CodeRange) (rs : List CodeRange) (g : length (all_keys [] all) ≤ length k₀) (w : Written k₀ all (r ∷ rs) n k) where
-      -- The words that stand there are the keys so far.
-      front : take n k ≡ w.so_far
-      front = ap (take n) w.words ∙ take_front w.so_far k₀ n w.counted w.room
+module _ (k₀ : List ℕ) (rs : List CodeRange) (r : CodeRange) (n : ℕ) (k : List ℕ) (g : length (all_keys [] (rs ++ (r ∷ []))) ≤ length k₀)
+    (w : Written k₀ rs n k) where
+  abbrev so_far : List ℕ
+  so_far = all_keys [] rs
 
-      long : length k ≡ length k₀
-      long = ap length w.words ∙ length-sets k₀ 0 w.so_far
+  abbrev next : List ℕ
+  next = insert_all (range_keys r) so_far
 
-      pub front_rising : Rising (take n k)
-      front_rising = subst Rising (sym front) w.rising
+  room_next : length next ≤ length k₀
+  room_next = omega (arith, g, ap length (keys_more [] rs r))
 
-      abbrev next : List ℕ
-      next = insert_all (range_keys r) w.so_far
+  room : length so_far ≤ length k₀
+  room = omega (arith, room_next, all_longer (range_keys r) so_far)
 
-      same_keys : insert_all (range_keys r) (take n k) ≡ next
-      same_keys = ap (insert_all (range_keys r)) front
+  -- The words that stand there are the keys so far.
+  front : take n k ≡ so_far
+  front = ap (take n) w.1 ∙ take_front so_far k₀ n w.0 room
 
-      room_next : length next ≤ length k₀
-      room_next = room_for (length k₀) w.so_far r rs (omega (arith, g, ap length w.goes_on))
+  long : length k ≡ length k₀
+  long = ap length w.1 ∙ length-sets k₀ 0 so_far
 
-      pub enough : (n ≤ length k) × (length (insert_all (range_keys r) (take n k)) ≤ length k)
-      enough = (omega (arith, w.counted, w.room, long), omega (arith, ap length same_keys, long, room_next))
+  pub front_rising : Rising (take n k)
+  front_rising = subst Rising (sym front) (keys_rise rs [] tt)
 
-      -- The slice with the entry's keys.
-      pub on : (n' : ℕ) (k' : List ℕ)
-          → n' ≡ length (insert_all (range_keys r) (take n k))
-          → k' ≡ sets k 0 (insert_all (range_keys r) (take n k))
-          → Written k₀ all rs n' k'
-      unfolding all_keys
-      on n' k' f h =
-          record {
-            so_far = next;
-            counted = f ∙ ap length same_keys;
-            rising = all_rising (range_keys r) w.so_far w.rising;
-            room = room_next;
-            words =
-                h
-                ∙ ap (sets k 0) same_keys
-                ∙ ap (λ (x : List ℕ). sets x 0 next) w.words
-                ∙ sets_over w.so_far next k₀ (all_longer (range_keys r) w.so_far) room_next;
-            goes_on = w.goes_on;
-          }
+  same_keys : insert_all (range_keys r) (take n k) ≡ next
+  same_keys = ap (insert_all (range_keys r)) front
+
+  pub enough : (n ≤ length k) × (length (insert_all (range_keys r) (take n k)) ≤ length k)
+  enough = (omega (arith, w.0, room, long), omega (arith, ap length same_keys, long, room_next))
+
+  -- The slice with the range's keys.
+  pub on : (n' : ℕ) (k' : List ℕ)
+      → n' ≡ length (insert_all (range_keys r) (take n k))
+      → k' ≡ sets k 0 (insert_all (range_keys r) (take n k))
+      → Written k₀ (rs ++ (r ∷ [])) n' k'
+  on n' k' f h = (
+    f ∙ ap length (same_keys ∙ sym (keys_more [] rs r)),
+    h
+        ∙ ap (sets k 0) same_keys
+        ∙ ap (λ (x : List ℕ). sets x 0 next) w.1
+        ∙ sets_over so_far next k₀ (all_longer (range_keys r) so_far) room_next
+        ∙ ap (sets k₀ 0) (sym (keys_more [] rs r)),
+  )

@@ -1,12 +1,14 @@
 // The keys of a cell of codes, written to a lent slice (document 02, request 1).
 #![tactic(auto)]
 
-ghost use Rattle.std.specs.Prelude.{◌≡◌, [], ◌∷◌, ◌+◌, ◌-◌, ◌^◌, ◌≤◌, ◌<◌, length, take, Ok};
+ghost use Rattle.std.specs.Prelude.{◌≡◌, List, [], ◌∷◌, ◌+◌, ◌-◌, ◌^◌, ◌≤◌, ◌<◌, length, take, Ok};
 ghost use Rattle.std.proofs.lemmas.List.Edits.{sets};
 ghost use Rattle.dial_code.specs.Digits.{most_digits};
 ghost use Rattle.code_entry.specs.Range.{range_keys, first_key};
-ghost use Rattle.code_cell.specs.Cell.{insert_all, entry_names, keys_named, own_keys, cell_keys, entry_keys, how_many, keys_of};
-ghost use Rattle.code_cell.specs.Count.{good_ranges, outcome, all_keys};
+ghost use Rattle.code_cell.specs.Cell.{insert_all, keys_named, own_keys, cell_keys, entry_keys, how_many, keys_of};
+ghost use Rattle.code_cell.specs.Count.{all_keys};
+ghost use Rattle.std.specs.Iterator.{Drains, HoldsAlong, IsFinite};
+ghost use Rattle.code_entry.specs.declared.CodeRange.{CodeRange};
 ghost use Rattle.code_cell.specs.Rising.{Rising};
 ghost use Rattle.cell_keys.specs.Answers.{entry_read, seen};
 ghost use Rattle.cell_keys.specs.Writing.{key_at, Run};
@@ -24,7 +26,7 @@ fn key_step(digits: u64, value: u64, weight: u64) -> u64
     let mut v = value;
     let mut w = weight;
     let mut less: u64 = 0;
-    // A loop over the last digits of a value: no index.
+    // The value tells how many 9s it ends in: no index is counted up to a bound.
     while v % 10 == 9 {
         less += 9 * w;
         w *= 11;
@@ -42,6 +44,7 @@ fn fill(range: CodeRange, start: u64, keys: &mut [u64], at: usize)
     let weight = dial_code::weight_of(range.digits);
     let mut key = start;
     keys[at] = key;
+    // By place: after an adapter of `iter_mut` a proof knows the slice's length alone.
     for i in 1..range.count {
         key += key_step(range.digits, range.first + (i - 1), weight);
         keys[at + i as usize] = key;
@@ -59,6 +62,7 @@ fn count_together(keys: &[u64], old: usize, range: CodeRange) -> usize
     let mut left = range.count;
     let mut p = old;
     let mut n: usize = 0;
+    // From two ends, of which each turn takes one or both: no `for` goes so.
     while 0 < p {
         let x = keys[p - 1];
         n += 1;
@@ -88,6 +92,7 @@ fn merge(keys: &mut [u64], old: usize, together: usize, range: CodeRange)
     let mut left = range.count;
     let mut p = old;
     let mut end = together;
+    // From two ends. `count_together` goes so too: in one function each store would hang on a flag.
     while 0 < p {
         let x = keys[p - 1];
         end -= 1;
@@ -112,8 +117,9 @@ fn merge(keys: &mut [u64], old: usize, together: usize, range: CodeRange)
     fill(rest, rest.first_key(), keys, 0);
 }
 
-// Puts the keys of a range to the rising ones at the front of a slice, and tells how many they are then. Above all of them they are
-// appended.
+// Puts the keys of a range to the rising ones at the front of a slice, and tells how many they are then. Above all of them they
+// are appended. The slice and the count of those at its front are no struct: it would be no plainer, since contracts would name
+// the words of `self.old.keys` and `self.new.keys` beside a count that is the result here.
 fn put_range(keys: &mut [u64], old: usize, range: CodeRange) -> usize
     requires rising { Rising (take old keys.old) }
     requires in_bounds { (old ≤ length keys.old) × (length (insert_all (range_keys range) (take old keys.old)) ≤ length keys.old) }
@@ -131,38 +137,25 @@ fn put_range(keys: &mut [u64], old: usize, range: CodeRange) -> usize
     together
 }
 
-// Writes the keys of a cell's entries, one entry after the other.
-fn write_entries(country: &[u8], cell: &[u8], keys: &mut [u64]) -> usize
-    requires none_refused { outcome (entry_names country.now cell.now) ≡ Ok tt }
-    requires room { length (all_keys [] (good_ranges (entry_names country.now cell.now))) ≤ length keys.old }
-    ensures value { result ≡ length (all_keys [] (good_ranges (entry_names country.now cell.now))) }
-    ensures after { keys.new ≡ sets keys.old 0 (all_keys [] (good_ranges (entry_names country.now cell.now))) }
+// Writes the keys of ranges, one range after the other, and tells how many they are.
+fn write_ranges<I: Iterator<Item = CodeRange> + Drop>(ranges: I, keys: &mut [u64]) -> usize
+    requires can { I.can_next ranges }
+    requires ends { IsFinite (I.remaining ranges) }
+    requires room { HoldsAlong I.next_gives ranges (λ rs. length (all_keys [] rs) ≤ length keys.old) }
+    ensures { (rs : List CodeRange) × Drains I.next_gives ranges rs × (result ≡ length (all_keys [] rs)) × (keys.new ≡ sets keys.old 0 (all_keys [] rs)) }
 {
     let mut n: usize = 0;
-    for range in Entries::new(country, cell) {
+    for range in ranges {
         n = put_range(keys, n, range);
     }
     n
 }
 
-// The same from the last entry to the first, so that entries that fall are appended too.
-fn write_backward(country: &[u8], cell: &[u8], keys: &mut [u64]) -> usize
-    requires none_refused { outcome (entry_names country.now cell.now) ≡ Ok tt }
-    requires room { length (all_keys [] (good_ranges (entry_names country.now cell.now))) ≤ length keys.old }
-    ensures value { result ≡ length (all_keys [] (good_ranges (entry_names country.now cell.now))) }
-    ensures after { keys.new ≡ sets keys.old 0 (all_keys [] (good_ranges (entry_names country.now cell.now))) }
-{
-    let mut n: usize = 0;
-    for range in Entries::new(country, cell).rev() {
-        n = put_range(keys, n, range);
-    }
-    n
-}
-
-// Whether a cell's last entry is below its first, so that its entries are better read from the last on. Keys are the same either way.
-fn is_falling(country: &[u8], cell: &[u8]) -> bool {
-    let mut entries = Entries::new(country, cell);
-    match (entries.next(), entries.next_back()) {
+// Whether the last of a cell's entries is below the first, so that they are better read from the last on. Keys are the same
+// either way.
+fn is_falling(entries: Entries) -> bool {
+    let mut left = entries;
+    match (left.next(), left.next_back()) {
         (Some(first), Some(last)) => last.first_key() < first.first_key(),
         _ => false,
     }
@@ -181,7 +174,9 @@ fn write_range(range: CodeRange, keys: &mut [u64]) -> Result<u64, Refusal>
     Ok(count)
 }
 
-// Writes the key of the country's own code, which a cell that is empty or all blanks means.
+// Writes the key of the country's own code, which a cell that is empty or all blanks means. Whether it can is told by `check_cell`,
+// too.
+#[tactic(auto, using(crate::proofs::Ones::own_refused, crate::proofs::Ones::own_so))]
 fn write_own(country: &[u8], keys: &mut [u64]) -> Result<u64, Refusal>
     ensures value { result ≡ how_many (own_keys country.now (length keys.old)) }
     ensures after { keys.new ≡ sets keys.old 0 (keys_of (own_keys country.now (length keys.old))) }
@@ -190,8 +185,8 @@ fn write_own(country: &[u8], keys: &mut [u64]) -> Result<u64, Refusal>
     write_range(range, keys)
 }
 
-// The keys that a cell of codes names beside a country cell, rising and each once, at the front of a lent slice, and how many they
-// are: 50, 51, 52.
+// The keys that a cell of codes names beside a country cell, rising and each once, at the front of a lent slice, and how many
+// they are: 50, 51, 52. A host lends the two cells each by itself.
 pub fn cell_keys(country: &[u8], cell: &[u8], keys: &mut [u64]) -> Result<u64, Refusal>
     ensures value { result ≡ how_many (cell_keys country.now cell.now (length keys.old)) }
     ensures after { keys.new ≡ sets keys.old 0 (keys_of (cell_keys country.now cell.now (length keys.old))) }
@@ -200,14 +195,15 @@ pub fn cell_keys(country: &[u8], cell: &[u8], keys: &mut [u64]) -> Result<u64, R
         return write_own(country, keys);
     }
     code_cell::check_cell(country, cell, keys)?;
-    if is_falling(country, cell) {
-        return Ok(write_backward(country, cell, keys) as u64);
+    let entries = Entries::new(country, cell);
+    if is_falling(entries) {
+        return Ok(write_ranges(entries.rev(), keys) as u64);
     }
-    Ok(write_entries(country, cell, keys) as u64)
+    Ok(write_ranges(entries, keys) as u64)
 }
 
-// The keys of the entry at the front of a cell, at the front of a lent slice: how many they are, and the part of the cell still to be
-// read, from the entry's comma on: 50, 51, 52.
+// The keys of the entry at the front of a cell, at the front of a lent slice: how many they are, and the part of the cell still to
+// be read, from the entry's comma on: 50, 51, 52.
 pub fn entry_keys<'a>(
     country: &[u8],
     cell: &'a [u8],

@@ -15,6 +15,14 @@ pub struct ClosedRange {
     pub closed: bool,
 }
 
+// What a notice asks of the codes that it does not list: its plan, and the marks of a partial notice's countries. Document 01
+// names their form: an array of 1,000 marks, 0 or 1, by country value.
+#[derive(Clone, Copy)]
+pub struct Closings<'a> {
+    pub plan: Plan,
+    pub marks: &'a [u8; 1000],
+}
+
 #[tactic(auto, unfolding(crate::specs::Closings::is_marked))]
 fn is_marked(marks: &[u8; 1000], country: u64) -> bool
     ensures { result ≡ is_marked marks.now country }
@@ -22,40 +30,44 @@ fn is_marked(marks: &[u8; 1000], country: u64) -> bool
     country < 1000 && marks[country as usize] == 1
 }
 
-// Whether a notice closes a code that it does not list.
-#[tactic(auto, unfolding(crate::specs::Closings::closes_by))]
-fn closes(plan: Plan, marks: &[u8; 1000], key: u64) -> bool
-    ensures { result ≡ closes_by plan marks.now key }
-{
-    let country = country_code::country_of_key(key);
-    match plan.kind {
-        Kind::Full => true,
-        Kind::Partial => country.is_some_and(|country| is_marked(marks, country)),
-        Kind::Update => false,
-        Kind::Replacement(named) => country == Some(named),
+impl Closings<'_> {
+    // Whether the notice closes a code that it does not list.
+    #[tactic(auto, unfolding(crate::specs::Closings::closes_by))]
+    fn closes(self, key: u64) -> bool
+        ensures { result ≡ closes_by self.entry.plan self.entry.marks.now key }
+    {
+        let marks = self.marks;
+        let country = country_code::country_of_key(key);
+        match self.plan.kind {
+            Kind::Full => true,
+            Kind::Partial => country.is_some_and(|country| is_marked(marks, country)),
+            Kind::Update => false,
+            Kind::Replacement(named) => country == Some(named),
+        }
     }
-}
 
-// The codes that a notice closes alike whatever their countries: all or none, where it is full or an update.
-#[tactic(auto, unfolding(crate::specs::Closings::closed_anyway))]
-pub fn closed_anyway(plan: Plan) -> ClosedRange
-    ensures { result ≡ closed_anyway plan }
-{
-    let (keys, closed) = match plan.kind {
-        Kind::Full => (0..dial_code::KEYS_END, true),
-        Kind::Update => (0..dial_code::KEYS_END, false),
-        Kind::Partial | Kind::Replacement(_) => (0..0, false),
-    };
-    ClosedRange { keys, closed }
-}
+    // The codes that it closes alike whatever their countries: all or none, where it is full or an update; else an empty
+    // range, which no key is in, so that the first key asks for its own.
+    #[tactic(auto, unfolding(crate::specs::Closings::closed_anyway))]
+    pub fn closed_anyway(self) -> ClosedRange
+        ensures { result ≡ closed_anyway self.entry.plan }
+    {
+        let (keys, closed) = match self.plan.kind {
+            Kind::Full => (0..dial_code::KEYS_END, true),
+            Kind::Update => (0..dial_code::KEYS_END, false),
+            Kind::Partial | Kind::Replacement(_) => (0..0, false),
+        };
+        ClosedRange { keys, closed }
+    }
 
-// The codes with the first three places of one, which have its country.
-#[tactic(auto, unfolding(crate::specs::Closings::closed_range))]
-pub fn closed_range(plan: Plan, marks: &[u8; 1000], key: u64) -> ClosedRange
-    ensures { result ≡ closed_range plan marks.now key }
-{
-    ClosedRange {
-        keys: country_code::stretch_of(key),
-        closed: closes(plan, marks, key),
+    // The codes with the first three places of one, which have its country.
+    #[tactic(auto, unfolding(crate::specs::Closings::closed_range))]
+    pub fn closed_range(self, key: u64) -> ClosedRange
+        ensures { result ≡ closed_range self.entry.plan self.entry.marks.now key }
+    {
+        ClosedRange {
+            keys: country_code::stretch_of(key),
+            closed: self.closes(key),
+        }
     }
 }

@@ -12,13 +12,12 @@ use Rattle.dial_code.proofs.Tests.{both, below, equal, above, order}
 use Rattle.code_entry.specs.Range.{range_keys}
 use Rattle.code_entry.specs.declared.CodeRange.{CodeRange}
 use Rattle.code_cell.specs.Cell.{insert, insert_all}
-use Rattle.code_cell.specs.Count.{good_ranges, all_keys, same_range, is_named, added, bound_of}
+use Rattle.code_cell.specs.Count.{all_keys, same_range, is_named, added, bound_of}
 use Rattle.code_cell.specs.Rising.{Rising, holds}
 use Rattle.code_cell.proofs.Inserts.{insert_same, insert_more, all_rising, above_less}
 use Rattle.code_cell.proofs.Members.{holds_all, above_out, or_true, insert_length}
 use Rattle.code_cell.proofs.RangeKeys.{range_keys_law, length_keys}
-use Rattle.refusal.specs.declared.Refusal.{Refusal}
-use Rattle.std.proofs.Common.{Result, Ok, Err, Option, Some, None}
+use Rattle.std.proofs.Common.{Option, Some, None}
 
 all_most : (ks l : List ℕ) → Rising l → length (insert_all ks l) ≤ length ks + length l
 unfolding insert_all

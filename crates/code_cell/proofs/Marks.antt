@@ -141,7 +141,7 @@ holds_marks a (suc n) x =
       | above o ↦ rw (ne_eqb x a (λ (e : x ≡ a). omega arith), le-leb a x (omega arith), le-leb (a + 1) x (omega arith))
     ]
 
-or_join : (a b c : Bool) → (a || (b || c)) ≡ ((b || a) || c)
+pub or_join : (a b c : Bool) → (a || (b || c)) ≡ ((b || a) || c)
 or_join true true c = refl
 or_join true false c = refl
 or_join false true c = refl

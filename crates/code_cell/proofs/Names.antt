@@ -81,7 +81,7 @@ module _ (c s : List ℕ) where
     pub first_ends : n ≤ length s
     first_ends = omega (arith, (read_codes c s r n e).1, entry_size s)
 
-    opened : entry_names c s ≡ Ok r ∷ map (entry_codes c) (later (rest_of s))
+    pub opened : entry_names c s ≡ Ok r ∷ map (entry_codes c) (later (rest_of s))
     opened =
         ap (map (entry_codes c)) (entries_first s)
         ∙ ap (λ (x : Result CodeRange Refusal). x ∷ map (entry_codes c) (later (rest_of s))) (read_codes c s r n e).0

@@ -14,17 +14,14 @@ use Rattle.dial_code.proofs.Tests.{both}
 use Rattle.code_entry.specs.Codes.{Writable}
 use Rattle.code_entry.specs.Range.{range_keys, keys_from, first_key, last_key}
 use Rattle.code_entry.specs.declared.CodeRange.{CodeRange}
-use Rattle.code_cell.specs.Cell.{insert_all, entries_of, entry_names}
-use Rattle.code_cell.specs.Count.{good_ranges, all_keys, is_named, added, bound_of, order_with, ordered, no_order}
+use Rattle.code_cell.specs.Cell.{insert_all}
+use Rattle.code_cell.specs.Count.{all_keys, is_named, added, bound_of, order_with, ordered, no_order}
 use Rattle.code_cell.specs.declared.Order.{Order}
-use Rattle.code_cell.specs.declared.Survey.{Survey}
 use Rattle.code_cell.specs.Rising.{Above, Below, Rising}
 use Rattle.code_cell.proofs.Inserts.{above_less, below_more, below_append, above_append, all_last, all_first}
 use Rattle.code_cell.proofs.RangeKeys.{range_keys_law, first_key_law, last_key_law, keys_below, keys_rising, length_keys}
 use Rattle.code_cell.proofs.Marks.{AllWritable}
-use Rattle.code_cell.proofs.Refusals.{good_writable}
-use Rattle.refusal.specs.declared.Refusal.{Refusal}
-use Rattle.std.proofs.Common.{Result, Ok, Err, Option, Some, None}
+use Rattle.std.proofs.Common.{Option, Some, None}
 
 abbrev rises : ℕ → List CodeRange → Bool
 rises k [] = true
@@ -78,7 +75,7 @@ module _ (r : CodeRange) (w : Writable r) where
       subst (Above j) (sym keys_cons)
       (h, above_less j (first_key r) (keys_from r.digits (r.first + 1) (r.count - 1)) h (subst Rising keys_cons rise_so).0)
 
-  count_so : length (range_keys r) ≡ r.count
+  pub count_so : length (range_keys r) ≡ r.count
   count_so = ap length (range_keys_law r) ∙ length_keys r.digits r.first r.count
 
 -- The bound grows by no more than the codes of a range.
@@ -108,7 +105,7 @@ ends_so r w =
 
 -- A range above the keys so far, and one below them.
 module _ (r : CodeRange) (w : Writable r) (l : List ℕ) where
-  put_above : Below l (first_key r) → insert_all (range_keys r) l ≡ l ++ range_keys r
+  pub put_above : Below l (first_key r) → insert_all (range_keys r) l ≡ l ++ range_keys r
   put_above b =
       ap (λ (x : List ℕ). insert_all x l) (keys_cons r w)
       ∙ all_last (first_key r) _ l (subst Rising (keys_cons r w) (rise_so r w)) b
@@ -117,7 +114,7 @@ module _ (r : CodeRange) (w : Writable r) (l : List ℕ) where
   put_below : (k : ℕ) → last_key r < k → ((j : ℕ) → j < k → Above j l) → insert_all (range_keys r) l ≡ range_keys r ++ l
   put_below k h a = all_first (range_keys r) l k (rise_so r w) (keys_above_last r w k h) a
 
-  longer_above : insert_all (range_keys r) l ≡ l ++ range_keys r → length (insert_all (range_keys r) l) ≡ length l + r.count
+  pub longer_above : insert_all (range_keys r) l ≡ l ++ range_keys r → length (insert_all (range_keys r) l) ≡ length l + r.count
   longer_above e = ap length e ∙ length-append l (range_keys r) ∙ ap (λ (x : ℕ). length l + x) (count_so r w)
 
   longer_below : insert_all (range_keys r) l ≡ range_keys r ++ l → length (insert_all (range_keys r) l) ≡ length l + r.count

@@ -26,7 +26,7 @@ use Rattle.refusal.specs.declared.Refusal.{Refusal}
 use Rattle.std.proofs.Common.{Result, Ok, Err, Option, Some, None}
 use Rattle.std.specs.Borrow.{Bor}
 use Rattle.std.specs.Option.{option_map_or}
-use Rattle.code_cell.specs.Reading.{names_left, ranges_left}
+use Rattle.code_cell.specs.Reading.{ranges_left}
 use Rattle.code_cell.specs.declared.Entries.{Entries}
 
 -- All that entries name can be written.

@@ -5,7 +5,7 @@ ghost use Rattle.std.specs.Prelude.{◌≡◌, ◌≢◌, ℕ, MatchOption, Each
 ghost use Rattle.std.specs.Option.{option_map_or};
 ghost use Rattle.std.specs.Iterator.{item_count};
 ghost use Rattle.code_entry.specs.Entry.{is_blank, comma, entry_of, entry_codes};
-ghost use Rattle.code_cell.specs.Reading.{names_left, ranges_left, outcome_left, GivesFirst, GivesLast};
+ghost use Rattle.code_cell.specs.Reading.{names_left, ranges_left, GivesFirst, GivesLast};
 ghost use Rattle.dial_code.specs.Digits.{every};
 ghost use Rattle.code_entry.specs.Codes.{most_codes};
 ghost use Rattle.code_cell.specs.Cell.{entries_of, entry_names, is_own, own_keys, cell_keys, checked};
@@ -19,24 +19,33 @@ use std::ops::Range;
 // Every code's number is below this.
 const MARKS_END: u64 = 2_000_000_000_000_000;
 
-// What the entries of a cell name beside a country cell: from the first on up to the first refused one, or from the last on.
+// What the entries of a cell name beside a country cell: from the first on up to the first refused one, or from the last on. A
+// refused one stays among those left.
 #[derive(Clone, Copy)]
 pub struct Entries<'a> {
     country: &'a [u8],
     rest: Option<&'a [u8]>,
-    refused: Option<Refusal>,
 }
 
 impl<'a> Entries<'a> {
     pub fn new(country: &'a [u8], cell: &'a [u8]) -> Self
-        ensures names { names_left result ≡ entry_names country.now cell.now }
-        ensures none_refused { outcome_left result ≡ outcome (entry_names country.now cell.now) }
+        ensures { names_left result ≡ entry_names country.now cell.now }
     {
         Entries {
             country,
             rest: Some(cell),
-            refused: None,
         }
+    }
+
+    // Whether none is left, where the first of those left is refused if there is one; or why it is.
+    fn outcome(self) -> Result<(), Refusal>
+        requires { ranges_left self ≡ [] }
+        ensures { result ≡ outcome (names_left self.entry) }
+    {
+        if let Some(cell) = self.rest {
+            code_entry::read_entry(self.country, cell)?;
+        }
+        Ok(())
     }
 }
 
@@ -47,38 +56,25 @@ impl<'a> Iterator for Entries<'a> {
 
     ghost remaining = { item_count names_left };
 
+    #[inline(always)]
     fn next(&mut self) -> Option<CodeRange> {
-        let cell = self.rest.take()?;
-        match code_entry::read_entry(self.country, cell) {
-            Ok((range, size)) => {
-                // Behind the entry's comma, if it has one.
-                self.rest = cell[size..].get(1..);
-                Some(range)
-            }
-            Err(e) => {
-                self.refused = Some(e);
-                None
-            }
-        }
+        let cell = self.rest?;
+        let (range, size) = code_entry::read_entry(self.country, cell).ok()?;
+        // Behind the entry's comma, if it has one.
+        self.rest = cell[size..].get(1..);
+        Some(range)
     }
 }
 
 impl<'a> DoubleEndedIterator for Entries<'a> {
     ghost next_back_gives = { GivesLast };
 
+    #[inline(always)]
     fn next_back(&mut self) -> Option<CodeRange> {
-        let cell = self.rest.take()?;
-        let (before, last) = split_last(cell);
-        match code_entry::read_entry(self.country, last) {
-            Ok((range, _)) => {
-                self.rest = before;
-                Some(range)
-            }
-            Err(e) => {
-                self.refused = Some(e);
-                None
-            }
-        }
+        let (before, last) = split_last(self.rest?);
+        let (range, _) = code_entry::read_entry(self.country, last).ok()?;
+        self.rest = before;
+        Some(range)
     }
 }
 
@@ -144,7 +140,7 @@ impl Order {
     }
 }
 
-// Whether all bytes are blanks.
+// Whether all bytes are blanks. An entry's blanks are counted (`code_entry`), these stop at the first other byte: one line each.
 fn is_blank(cell: &[u8]) -> bool
     ensures { result ≡ every is_blank cell.now }
 {
@@ -172,23 +168,23 @@ fn added(room: usize, bound: u64, before: Option<CodeRange>, range: CodeRange) -
 }
 
 // Looks at each entry up to the first that is refused.
-#[tactic(auto, unfolding(crate::specs::Count::outcome, crate::specs::Count::bound_of))]
+#[tactic(auto, unfolding(crate::specs::Count::good_ranges, crate::specs::Count::outcome, crate::specs::Count::bound_of))]
 fn look_over(entries: Entries, room: usize) -> Survey
     requires { room + most_codes < 2 ^ 64 }
-    ensures { result ≡ told (outcome_left entries.entry) (bound_of room 0 None (ranges_left entries.entry)) }
+    ensures { result ≡ told (outcome (names_left entries.entry)) (bound_of room 0 None (ranges_left entries.entry)) }
 {
     let mut left = entries;
     let mut bound: u64 = 0;
     let mut before = None;
+    // After a `for` over `by_ref` a proof does not know what is left.
     while let Some(range) = left.next() {
         bound = added(room, bound, before, range);
         before = Some(range);
     }
-    let answer = match left.refused {
-        None => Ok(()),
-        Some(e) => Err(e),
-    };
-    Survey { answer, bound }
+    Survey {
+        answer: left.outcome(),
+        bound,
+    }
 }
 
 // Of the stretch found so far and that of a range, the one that starts first from a number on.
@@ -205,16 +201,16 @@ fn closer(from: u64, found: Range<u64>, range: CodeRange) -> Range<u64>
     found
 }
 
-// The first stretch of numbers from one on that entries before the first refused one name; at the numbers' end if there is none.
-#[tactic(auto, unfolding(crate::specs::Count::closest))]
-fn next_stretch(entries: Entries, from: u64) -> Range<u64>
-    ensures { result ≡ closest from (stretch marks_end marks_end) (ranges_left entries.entry) }
+// The first stretch of numbers from one on that entries before the first refused one name, if there is one.
+#[tactic(auto, unfolding(crate::specs::Count::good_ranges, crate::specs::Count::closest))]
+fn next_stretch(entries: Entries, from: u64) -> Option<Range<u64>>
+    ensures { MatchOption result (marks_end ≤ (closest from (stretch marks_end marks_end) (ranges_left entries.entry)).start) (λ t. (t ≡ closest from (stretch marks_end marks_end) (ranges_left entries.entry)) × (t.start < marks_end)) }
 {
     let mut found = MARKS_END..MARKS_END;
     for range in entries {
         found = closer(from, found, range);
     }
-    found
+    (found.start < MARKS_END).then_some(found)
 }
 
 // Whether the distinct codes of the entries before the first refused one are no more than a room, counted stretch by stretch.
@@ -223,11 +219,8 @@ fn fits(entries: Entries, room: usize) -> bool
 {
     let mut from: u64 = 0;
     let mut left = room as u64;
-    loop {
-        let next = next_stretch(entries, from);
-        if MARKS_END <= next.start {
-            return true;
-        }
+    // Each search starts where the stretch before ended: no iterator gives that.
+    while let Some(next) = next_stretch(entries, from) {
         let codes = next.end - next.start;
         if left < codes {
             return false;
@@ -235,10 +228,11 @@ fn fits(entries: Entries, room: usize) -> bool
         left -= codes;
         from = next.end;
     }
+    true
 }
 
 // Whether the entries before the first refused one rise, or fall: then no code is named twice.
-#[tactic(auto, unfolding(crate::specs::Count::ordered))]
+#[tactic(auto, unfolding(crate::specs::Count::good_ranges, crate::specs::Count::ordered))]
 fn is_ordered(entries: Entries) -> bool
     ensures { result ≡ ordered no_order (ranges_left entries.entry) }
 {
@@ -249,7 +243,8 @@ fn is_ordered(entries: Entries) -> bool
     order.rises || order.falls
 }
 
-// Whether the country's own code can be used, with so much room.
+// Whether the country's own code can be used, with so much room: what writes it (`cell_keys`) asks the same before it does.
+#[tactic(auto, using(crate::proofs::Refusals::own_not, crate::proofs::Refusals::own_full, crate::proofs::Refusals::own_fits))]
 fn check_own(country: &[u8], room: usize) -> Result<(), Refusal>
     ensures { result ≡ checked (own_keys country.now room) }
 {

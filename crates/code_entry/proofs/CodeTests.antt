@@ -2,18 +2,19 @@
 use mathlib.Core.Path.{◌≡◌, refl, ap, sym, ◌∙◌}
 use mathlib.Core.Bool.{Bool, true, false, false≢true, cond, not, ◌||◌}
 use mathlib.Core.List.{List, [], ◌∷◌}
-use Prim.Native.Nat.{ℕ, zero, suc, ◌+◌, ◌-◌, ◌*◌, ◌/◌, ◌%◌, ◌^◌, ◌≤◌, ◌<◌}
+use Prim.Native.Nat.{ℕ, zero, suc, ◌-◌, ◌/◌, ◌%◌, ◌^◌, ◌≤◌, ◌<◌}
 use native.Mathlib.Nat.{pow-succ', one-le-pow, mod-eq_of_lt, div-eq_of_lt, div-lt_iff_lt-mul, le-div_iff_mul-le}
 use native.Mathlib.Omega.{arith}
 use borrow.Author.Tests.{le-leb, lt-leb, lt-ltb}
-use lib.Dec.{eqb, leb, lit<, lit≤}
+use lib.Dec.{eqb, leb, lit<}
 use lib.ListN.{length}
 use Rattle.dial_code.specs.Digits.{digits, every, is_digit, is_number, is_written}
 use Rattle.dial_code.specs.Key.{key}
-use Rattle.country_code.specs.CountryCode.{country_digits, one_digit, two_digits}
+use Rattle.country_code.specs.CountryCode.{country_digits}
 use Rattle.allowed_code.specs.Code.{is_code, sent_code_key}
 use Rattle.dial_code.proofs.DigitLaws.{length_digits, digits_are, zero_first, number_cons, number_facts, digits_value}
 use Rattle.dial_code.proofs.Tests.{both, and_right_true, order, below, equal, above, all_below, each_below}
+use Rattle.country_code.proofs.CountryLaws.{country_most}
 use Rattle.allowed_code.proofs.CodeLaws.{country_test}
 use Rattle.allowed_code.proofs.SentCodes.{sent_test}
 use Rattle.code_entry.specs.Scan.{digits_of}
@@ -38,22 +39,6 @@ refuted false h = refl
 
 too_long : (ds : List ℕ) → 15 < length ds → is_code ds ≡ false
 too_long ds h = refuted (is_code ds) (λ e. let p = code_facts ds e in omega (arith, p.0))
-
--- A country code has at most three digits.
-country_most : (ds : List ℕ) → country_digits ds ≤ 3
-unfolding country_digits
-country_most [] = omega arith
-country_most (a ∷ []) = go (one_digit a)
-  where
-    go : (t : Bool) → cond t 1 3 ≤ 3
-    go true = lit≤ tt
-    go false = lit≤ tt
-country_most (a ∷ b ∷ s) = go (one_digit a) (two_digits (a * 10 + b))
-  where
-    go : (t u : Bool) → cond t 1 (cond u 2 3) ≤ 3
-    go true u = lit≤ tt
-    go false true = lit≤ tt
-    go false false = lit≤ tt
 
 -- whether a first digit is 0
 first_zero : (k v : ℕ) → v < 10 ^ k → is_number (digits (suc k) v) ≡ false

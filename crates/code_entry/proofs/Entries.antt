@@ -5,15 +5,15 @@ use mathlib.Core.List.{List, [], ◌∷◌, ◌++◌, map}
 use Prim.Native.Nat.{ℕ, suc, ◌+◌, ◌^◌, ◌≤◌, ◌<◌}
 use native.Mathlib.Omega.{arith}
 use native.Mathlib.Numerals.{add-one}
-use borrow.Author.Tests.{eqb-true, ne_eqb, leb-true, le-leb}
-use lib.Dec.{eqb, leb}
+use borrow.Author.Tests.{eqb-true, ne_eqb}
+use lib.Dec.{eqb}
 use lib.ListN.{length, get_or, drop, length-drop, drop_of_length-le}
 use lib.Seq.{drop-cons}
 use Rattle.dial_code.specs.Digits.{every, is_ascii, is_digit, digit_of}
 use Rattle.dial_code.specs.declared.Code.{Code}
 use Rattle.allowed_code.specs.Code.{is_code}
 use Rattle.dial_code.proofs.Tests.{below, equal, above, order, both, and_left_true, and_right_false}
-use Rattle.dial_code.proofs.DigitLaws.{length_digits, value_digits}
+use Rattle.dial_code.proofs.DigitLaws.{length_digits, value_digits, ascii_digits}
 use Rattle.code_entry.specs.Range.{range_of}
 use Rattle.code_entry.specs.Entry.{leading, after, entry_of, is_blank, is_some, dash, comma, code_of, is_typed, Single, Joined}
 use Rattle.code_entry.specs.Entry.{Stray, typed, typed_after, one_code, code_range, typed_codes, entry_codes, sized, read_entry}
@@ -42,13 +42,6 @@ leading_all f (b ∷ s) = go (f b) refl (leading_all f s)
     go false e i = refl
 
 -- ASCII digits stand for digits, also behind others.
-ascii_digits : (s : List ℕ) → every is_ascii s ≡ true → every is_digit (map digit_of s) ≡ true
-ascii_digits [] e = refl
-ascii_digits (b ∷ s) e =
-    let p = both (is_ascii b) (every is_ascii s) e in
-    let l = leb-true b 57 (both (leb 48 b) (leb b 57) p.0).1 in
-    and_left_true _ (le-leb (digit_of b) 9 (omega arith)) ∙ ascii_digits s p.1
-
 every_append : (f : ℕ → Bool) (s t : List ℕ) → every f s ≡ true → every f t ≡ true → every f (s ++ t) ≡ true
 every_append f [] t d e = e
 every_append f (x ∷ s) t d e =

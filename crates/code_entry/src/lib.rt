@@ -3,7 +3,8 @@
 
 ghost use Rattle.std.specs.Prelude.{◌≡◌, true, ◌+◌, ◌^◌, ◌≤◌, ◌<◌, length, drop, eqb, get_or};
 ghost use Rattle.std.specs.List.{prefix_len};
-ghost use Rattle.allowed_code.specs.Code.{is_code};
+ghost use Rattle.std.specs.Result.{is_ok};
+ghost use Rattle.allowed_code.specs.Code.{is_code, sent_code_key};
 ghost use Rattle.code_entry.specs.Range.{range_of, codes_from, first_key, last_key};
 ghost use Rattle.code_entry.specs.Entry.{is_blank, dash, all_codes, code_range, read_entry, own_code};
 ghost use Rattle.code_entry.specs.Scan.{code_with, digits_of, pushed, run_of, is_end, country_digits, typed_code, entry_end, typed_range};
@@ -36,14 +37,16 @@ impl Model for CodeRange {
 }
 
 impl CodeRange {
-    // The key of the first code.
+    // The key of the first code. By the invariant there is one: 0 is never given.
+    #[tactic(auto, using(dial_code::proofs::CountedKeys::or_zero, dial_code::proofs::CountedKeys::key_so))]
     pub fn first_key(self) -> u64
         ensures { result ≡ first_key self }
     {
         dial_code::code_key(self.digits, self.first).unwrap_or(0)
     }
 
-    // The key of the last code.
+    // The key of the last code, likewise.
+    #[tactic(auto, using(dial_code::proofs::CountedKeys::or_zero, dial_code::proofs::CountedKeys::key_so))]
     pub fn last_key(self) -> u64
         ensures { result ≡ last_key self }
     {
@@ -51,7 +54,8 @@ impl CodeRange {
     }
 }
 
-// Digits as they are typed: how many they are, and their value. After 15 they are too many, whatever follows: 16, of value 0.
+// Digits as they are typed: how many they are, and their value. After 15 they are too many, whatever follows: 16, of value 0, so
+// that the next digit needs no case. A `Code` may be any two numbers, these have an invariant.
 #[derive(Clone, Copy)]
 struct Typed {
     count: u64,
@@ -69,6 +73,14 @@ impl Model for Typed {
     ghost invariant = { λ c. c.value < 10 ^ c.count };
 
     ghost inverse = { λ c. record { count = c.count; value = c.value } };
+}
+
+// Whether a value of two digits is an allowed code. Not in line: few codes have two digits, and an entry is read faster without it.
+#[inline(never)]
+fn is_two_digit_code(value: u64) -> bool
+    ensures { result ≡ is_ok (sent_code_key 2 value) }
+{
+    allowed_code::sent_code_key(2, value).is_ok()
 }
 
 impl Typed {
@@ -99,12 +111,13 @@ impl Typed {
     }
 
     // Whether they are an allowed code: from three digits on, where the first is not 0.
+    #[inline(always)]
     fn is_code(self) -> bool
         ensures { result ≡ is_code (digits_of self) }
     {
         match self.count {
             1 => self.value == 1 || self.value == 7,
-            2 => allowed_code::sent_code_key(self.count, self.value).is_ok(),
+            2 => is_two_digit_code(self.value),
             3..=MOST_DIGITS => dial_code::ten_to(self.count - 1) <= self.value,
             _ => false,
         }
@@ -118,6 +131,10 @@ fn blanks(s: &[u8]) -> usize
 {
     s.iter().take_while(|&&b| b == b' ').count()
 }
+
+// What is read below starts at a position of the cell and ends at one, which is what the next reading takes: parts of the cell
+// would have to be measured again for it. That a code is allowed is asked by those that `read_code` gives one: a type of its own
+// would be taken apart by each of them.
 
 // Where the blanks from a position on end.
 #[tactic(auto, using(std::proofs::lemmas::List::take_rest))]
@@ -153,6 +170,7 @@ fn read_digits(own: Typed, cell: &[u8], start: usize) -> (Typed, usize)
 }
 
 // The digits of a country cell, which holds nothing else.
+#[tactic(auto, using(crate::proofs::Entries::country_refused, crate::proofs::Entries::country_read))]
 fn country_digits(country: &[u8]) -> Result<Typed, Refusal>
     ensures { result ≡ country_digits country.now }
 {
@@ -165,6 +183,7 @@ fn country_digits(country: &[u8]) -> Result<Typed, Refusal>
 }
 
 // The code at a position, behind the digits of a country: it is typed, and allowed.
+#[tactic(auto, using(crate::proofs::Entries::none_typed, crate::proofs::Entries::code_refused, crate::proofs::Entries::code_read))]
 fn read_code(own: Typed, cell: &[u8], at: usize) -> Read<Typed>
     requires { at ≤ length cell.now }
     ensures { result ≡ typed_code own cell.now at }
@@ -177,6 +196,7 @@ fn read_code(own: Typed, cell: &[u8], at: usize) -> Read<Typed>
 }
 
 // Where the entry ends whose codes end at a position: blanks alone stand between.
+#[tactic(auto, unfolding(crate::specs::Scan::entry_end), using(crate::proofs::Entries::next_most))]
 fn read_end(cell: &[u8], at: usize) -> Result<usize, Refusal>
     requires { at ≤ length cell.now }
     ensures { result ≡ entry_end cell.now at }
@@ -243,6 +263,8 @@ fn is_dash(cell: &[u8], at: usize) -> bool
 }
 
 // The entry of an allowed first code, at the bytes after its dash.
+#[inline(always)]
+#[tactic(auto, unfolding(crate::specs::Scan::typed_range))]
 fn read_range(own: Typed, first: Typed, cell: &[u8], at: usize) -> Read<CodeRange>
     requires { (is_code (digits_of first) ≡ true) × (at ≤ length cell.now) }
     ensures { result ≡ typed_range own first cell.now at }
@@ -252,7 +274,10 @@ fn read_range(own: Typed, first: Typed, cell: &[u8], at: usize) -> Read<CodeRang
     Ok((range_between(first, last)?, end))
 }
 
-// The entry at the front of a cell, beside a country cell.
+// The entry at the front of a cell, beside a country cell. In line, so that a range that is read need not go through memory: with
+// a call, a cell of 2,000 codes takes 121 µs in place of 96.
+#[inline(always)]
+#[tactic(auto, unfolding(crate::specs::Scan::scanned), using(crate::proofs::Entries::scan_law, crate::proofs::Entries::code_facts))]
 pub fn read_entry(country: &[u8], cell: &[u8]) -> Read<CodeRange>
     ensures { result ≡ read_entry country.now cell.now }
 {
@@ -266,6 +291,7 @@ pub fn read_entry(country: &[u8], cell: &[u8]) -> Read<CodeRange>
 }
 
 // The country's own code.
+#[tactic(auto, using(crate::proofs::Entries::own_law))]
 pub fn own_code(country: &[u8]) -> Result<CodeRange, Refusal>
     ensures { result ≡ own_code country.now }
 {

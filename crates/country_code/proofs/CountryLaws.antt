@@ -1,5 +1,5 @@
 -- The country of a key from its first three places. Assumes nothing.
-use Rattle.std.proofs.Common.{◌≡◌, refl, ap, sym, ◌∙◌, Bool, true, cond, List, [], ◌∷◌, ℕ, suc, ◌+◌, ◌-◌, ◌*◌, ◌/◌, ◌%◌, ◌^◌, ◌≤◌, ◌<◌, length, take, eqb, leb, Option, Some, None, inl, inr, arith}
+use Rattle.std.proofs.Common.{◌≡◌, refl, ap, sym, ◌∙◌, Bool, true, false, cond, List, [], ◌∷◌, ℕ, suc, ◌+◌, ◌-◌, ◌*◌, ◌/◌, ◌%◌, ◌^◌, ◌≤◌, ◌<◌, length, take, eqb, leb, Option, Some, None, inl, inr, arith}
 use Rattle.std.proofs.lemmas.Bool.{cases_lt, agree_below_at}
 use Rattle.std.proofs.lemmas.Bool.Decides.{nat_tests}
 use Rattle.dial_code.specs.Digits.{every, is_digit, value}
@@ -111,3 +111,19 @@ same_country_law w v e =
           ∙ sym (by_places_law v (omega (arith, e)))
       | inr h ↦ no_key w h ∙ sym (no_key v (omega (arith, e)))
     ]
+
+-- A country code has at most three digits.
+pub country_most : (ds : List ℕ) → country_digits ds ≤ 3
+unfolding country_digits
+country_most [] = omega arith
+country_most (a ∷ []) = go (one_digit a)
+  where
+    go : (t : Bool) → cond t 1 3 ≤ 3
+    go true = omega arith
+    go false = omega arith
+country_most (a ∷ b ∷ ds) = go (one_digit a) (two_digits (a * 10 + b))
+  where
+    go : (t u : Bool) → cond t 1 (cond u 2 3) ≤ 3
+    go true u = omega arith
+    go false true = omega arith
+    go false false = omega arith

@@ -42,7 +42,7 @@ pub fn country_of_key(key: u64) -> Option<u64>
     Some(two * 10 + third)
 }
 
-// The words with the first three places of a key; none from the keys' end on.
+// The words with the first three places of a key; none from the keys' end on: an empty range, which no word is in.
 #[tactic(auto, unfolding(crate::specs::Stretches::stretch_of))]
 pub fn stretch_of(key: u64) -> Range<u64>
     ensures { result ≡ stretch_of key }

@@ -6,9 +6,10 @@ ghost use Rattle.country_code.specs.CountryCode.{country_of_key};
 ghost use Rattle.notice.specs.Lines.{lines_at};
 ghost use Rattle.country_marks.specs.Marks.{marked, marks_of, marks_for};
 
+use notice::Lines;
 use notice_header::{Header, Kind};
 
-// Marks the country of a key.
+// Marks the country of a key, in the form that document 01 names: an array of 1,000 marks, 0 or 1, by country value.
 #[tactic(auto, using(crate::proofs::Marking::marks_past))]
 fn mark(marks: &mut [u8; 1000], key: u64)
     ensures { marks.new ≡ marked (country_of_key key) marks.old }
@@ -20,28 +21,25 @@ fn mark(marks: &mut [u8; 1000], key: u64)
     }
 }
 
-// Marks the countries of so many lines.
-fn mark_lines(notice: &[u8], start: usize, lines: u64, marks: &mut [u8; 1000])
-    ensures { marks.new ≡ marks_of marks.old (lines_at lines notice.now start) }
+// Marks the countries of lines.
+#[tactic(auto, unfolding(crate::specs::Marks::marks_of))]
+fn mark_lines(lines: Lines, marks: &mut [u8; 1000])
+    ensures { marks.new ≡ marks_of marks.old lines.entry }
 {
-    let mut at = start;
-    for _ in 0..lines {
-        let Ok((line, end)) = notice_line::line_at(notice, at) else {
-            return;
-        };
+    for line in lines {
         mark(marks, line.key);
-        at = end;
     }
 }
 
-// For a partial notice the countries named are first noted in a table of 1,000 marks, one for each value from 0 to 999.
+// For a partial notice the countries named are first noted in a table of 1,000 marks, one for each value from 0 to 999; for another
+// notice none. Document 01 names this form: an array of 1,000 marks, 0 or 1, by country value. It is lent, since a copy of an answer
+// would want `memcpy`, which a host may not have.
 #[tactic(auto, unfolding(crate::specs::Marks::marks_for))]
-pub fn marks_for(notice: &[u8], header: Header) -> [u8; 1000]
-    ensures { result ≡ marks_for header.kind (lines_at header.lines notice.now header.start) }
+pub fn mark_countries(notice: &[u8], header: Header, marks: &mut [u8; 1000])
+    ensures { marks.new ≡ marks_for header.kind (lines_at header.lines notice.now header.start) }
 {
-    let mut marks = [0; 1000];
+    marks.fill(0);
     if header.kind == Kind::Partial {
-        mark_lines(notice, header.start, header.lines, &mut marks);
+        mark_lines(Lines::of(notice, header.start, header.lines), marks);
     }
-    marks
 }

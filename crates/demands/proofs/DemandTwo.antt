@@ -37,7 +37,7 @@ use Rattle.listing.proofs.Answering as answering
 use Rattle.listing.proofs.ReadsBack as lists
 use Rattle.listing.proofs.Relisted as relisted
 use Rattle.refusal.specs.Steps.{ok_at}
-use Rattle.std.proofs.Common.{Ok, Err, Option, Some, None}
+use Rattle.std.proofs.Common.{Ok, Err, Option}
 use Rattle.refusal.specs.Refusal.{number_of}
 use Rattle.refusal.specs.declared.Refusal.{Refusal}
 

@@ -140,4 +140,4 @@ module _ {count v n key weight rest : ℕ} (w : Weighed count v n key weight res
       let l : v / 10 ^ count < 1 = omega (arith, left_over) in
       rw ((rw e at w).whole, f) (sent count v p h (omega (arith, (div-lt_iff_lt-mul (ten count)).0 l)))
 
-pub ruleset weighing = (no_count, many, begins, room, weight_room)
+pub ruleset weighing = (no_count, many, begins, room, weight_room, more_digits, all_digits)

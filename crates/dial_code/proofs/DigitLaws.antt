@@ -110,3 +110,10 @@ pub dialled_digits :
     → (length (map digit_of s) ≤ 15) × (every is_digit (map digit_of s) ≡ true)
 unfolding is_dialled
 dialled_digits s h = number_facts (map digit_of s) (and_parts (every is_ascii s) (is_number (map digit_of s)) h).1
+
+-- ASCII digits stand for digits.
+pub ascii_digits : (s : List ℕ) → every is_ascii s ≡ true → every is_digit (map digit_of s) ≡ true
+ascii_digits [] e = refl
+ascii_digits (b ∷ s) e =
+    let ih = ascii_digits s in
+    grind (arith, nat_tests)

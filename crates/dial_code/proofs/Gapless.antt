@@ -8,13 +8,7 @@ use Rattle.dial_code.proofs.Places.{read_one}
 abbrev up : ℕ → ℕ
 up w = w % first_place * 11
 
--- A word keeps its second and third places without its first, and its third without its second.
-one_up : (w : ℕ) → up w ≡ w / third_place % 121 * (third_place * 11) + w % third_place * 11
-one_up w = omega arith
-
-two_up : (w : ℕ) → up (up w) ≡ w / third_place % 11 * first_place + w % third_place * 121
-two_up w = omega arith
-
+-- A word keeps no more than its fourth place without its first three.
 three_up : (w : ℕ) → up (up (up w)) ≡ w % third_place * 1331
 three_up w = omega arith
 

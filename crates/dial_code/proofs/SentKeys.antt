@@ -1,5 +1,5 @@
 -- The key of a code sent as a count of digits and a value, and whether it shows that the first digit is not 0. Assumes nothing.
-use Rattle.std.proofs.Common.{◌≡◌, refl, sym, ◌∙◌, Bool, true, false, cond, List, [], ◌∷◌, ℕ, ◌*◌, ◌≤◌, leb, length, Ok, Err, inl, inr, arith}
+use Rattle.std.proofs.Common.{◌≡◌, refl, sym, ◌∙◌, true, cond, List, [], ◌∷◌, ℕ, ◌*◌, ◌≤◌, leb, length, Ok, Err, inl, inr, arith}
 use Rattle.std.proofs.lemmas.Bool.{cases_eq, le-leb, lt-leb}
 use Rattle.std.proofs.lemmas.Bool.Decides.{nat_tests}
 use Rattle.dial_code.specs.Digits.{every, is_digit, digits, is_written, is_number}
@@ -33,15 +33,3 @@ module _ (count v : ℕ) where
 
   pub sent_number : is_written count v ≡ true → is_number (digits count v) ≡ leb (2 * first_place) (key (digits count v))
   sent_number w = number_by_key (digits count v) (digits_are count v) (omega (arith, length_digits count v, few w))
-
-  -- What a code's key tells: its digits.
-  pub told : (k : ℕ) → code_key count v ≡ Ok k → (is_written count v ≡ true) × (key (digits count v) ≡ k)
-  told k q = go (is_written count v) refl (sym code_test ∙ q)
-    where
-      go :
-          (t : Bool)
-          → is_written count v ≡ t
-          → cond t (Ok (key (digits count v))) (Err OutOfRange) ≡ Ok k
-          → (is_written count v ≡ true) × (key (digits count v) ≡ k)
-      go true w r = (w, cc)
-      go false w r = absurd (cc)

@@ -4,26 +4,19 @@ use Rattle.std.proofs.Common.{◌≡◌, refl, ap, ◌∙◌, Bool, true, cond, 
 use Rattle.std.proofs.Math.ListN.{length-map, drop_of_length-le}
 use Rattle.std.proofs.Math.Nat.{pow-suc, pow-le-pow_right, one-le-pow, mul-le-mul_right}
 use Rattle.std.proofs.Math.Pow.{pow-add}
-use Rattle.std.proofs.lemmas.Bool.{and_parts, leb-true, le-leb}
+use Rattle.std.proofs.lemmas.Bool.{and_parts, leb-true}
 use Rattle.std.proofs.lemmas.Bool.Decides.{nat_tests}
 use Rattle.refusal.specs.declared.Refusal.{Refusal}
 use Rattle.refusal.specs.declared.Refusal.TheVariants.{NotANumber}
-use Rattle.dial_code.specs.Digits.{every, is_digit, is_ascii, digit_of, is_number, is_dialled}
+use Rattle.dial_code.specs.Digits.{every, is_ascii, digit_of, is_number, is_dialled}
 use Rattle.dial_code.specs.Key.{key_from, key}
+use Rattle.dial_code.proofs.DigitLaws.{ascii_digits}
 use Rattle.dialled_number.specs.NumberKey.{number_key}
 
 -- The rule from the i-th byte on, with the places of the bytes before it read as one number.
 unfoldable pub spelled_from : ℕ → ℕ → List ℕ → Result ℕ Refusal
 spelled_from i k s =
     cond (every is_ascii (drop i s)) (Ok (k * 11 ^ (15 - i) + key_from (i + 1) (map digit_of (drop i s)))) (Err NotANumber)
-
-ascii_digits : (s : List ℕ) → every is_ascii s ≡ true → every is_digit (map digit_of s) ≡ true
-ascii_digits [] e = refl
-ascii_digits (b ∷ s) e =
-    let p = and_parts (is_ascii b) (every is_ascii s) e in
-    let q = and_parts (leb 48 b) (leb b 57) p.0 in
-    let h : b - 48 ≤ 9 = omega (arith, leb-true b 57 q.1) in
-    rw (le-leb (b - 48) 9 h) (ascii_digits s p.1)
 
 -- Past the first tests only a byte that is no digit is left to find.
 number_by_byte : (b : ℕ) (s : List ℕ) → every is_ascii (b ∷ s) ≡ true

@@ -28,7 +28,7 @@ fn is_increase(old: &[u64], key: u64, day: u64, offer: Offer) -> bool
         Offer::Closed | Offer::Blocked => true,
         Offer::Open { rate, .. } => match longest_match::best_offer(old, key, day).offer {
             Offer::Closed | Offer::Blocked => false,
-            Offer::Open { rate: standing, .. } => standing.0 < rate.0,
+            Offer::Open { rate: standing, .. } => standing < rate,
         },
     }
 }

@@ -7,7 +7,7 @@ use Prim.Native.Nat.{ℕ}
 use Rattle.rate.specs.OfferWord.{in_range, word_of, offer_of}
 use Rattle.rate.specs.declared.Offer.{Offer}
 use Rattle.rate.specs.declared.Offer.TheVariants.{Closed}
-use Rattle.rate.proofs.Words.{reads_back, only_word, closed_word}
+use Rattle.rate.proofs.Words.{reads_back, closed_word}
 use Rattle.notice.specs.NoticeRule.{Notice}
 use Rattle.book_words.specs.Layout.{entries_of, book_of, period_of}
 use Rattle.book.specs.Soundness.{is_offer_word, sound_entries, sound}
@@ -15,24 +15,17 @@ use Rattle.book.specs.Status.{status_in, held_offer, offer_in}
 use Rattle.book_words.specs.declared.Entry.{Entry}
 use Rattle.book.proofs.Headers.{sound_book}
 use Rattle.book.proofs.SoundLists.{to_sound}
-use Rattle.book.proofs.Statuses.{no_code, stays, offer_word}
+use Rattle.book.proofs.Statuses.{no_code, stays, offer_word, held_in_range}
 use Rattle.book.proofs.Unique.{unique}
 use Rattle.history.specs.Effect.{Known}
 use Rattle.history.specs.ChangeDays.{change_days}
 use Rattle.history.specs.Machine.{words}
 use Rattle.history.specs.Applying.{in_book, after_book, new_entries, new_book}
 use Rattle.history.proofs.ChangeLaws.{Admissible, status_back, changes_are_sound}
-use Rattle.history.proofs.Keeping.{closed_in_range, Standing, Good, keeps}
-use Rattle.std.proofs.Common.{Option, Some, None, is_some}
+use Rattle.history.proofs.Keeping.{Standing, Good, keeps}
+use Rattle.std.proofs.Common.{is_some}
 
 -- Offer words and offers in range are each other's.
-held_in_range : (w : ℕ) → in_range (held_offer (offer_of w)) ≡ true
-held_in_range w = go (offer_of w) refl
-  where
-    go : (s : Option Offer) → offer_of w ≡ s → in_range (held_offer s) ≡ true
-    go (Some o) e = (only_word w o e).1
-    go None e = closed_in_range
-
 offer_back : (o : Offer) → in_range o ≡ true → held_offer (offer_of (word_of o)) ≡ o
 offer_back o h = ap held_offer (reads_back o h)
 

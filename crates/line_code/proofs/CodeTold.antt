@@ -17,7 +17,8 @@ use Rattle.varint.specs.Ranged.{read_ranged}
 use Rattle.line_code.specs.CodeRule.{is_country, lies_in, code_field, read_code}
 use Rattle.line_code.proofs.Codes.{same_country}
 use Rattle.varint.proofs.Links.{either, on_value, yes_case}
-use Rattle.varint.proofs.Told.{Told, then_told, Spans, number_told, Ranged, ranged_told}
+use Rattle.refusal.proofs.Told.{Told, ReadTold, then_read}
+use Rattle.varint.proofs.Told.{Spans, number_told, Ranged, ranged_told}
 use Rattle.refusal.specs.Steps.{Read, ok_at}
 use Rattle.std.proofs.Common.{Option, Some, None}
 
@@ -34,12 +35,12 @@ pub record Coded (named : Option ℕ) (before : ℕ) (s : List ℕ) (at k end : 
   pub inside : (c : ℕ) → named ≡ Some c → country_of_key k ≡ Some c
   pub alone : read_code None 0 s at ≡ ok_at k end
 
-pub code_told : (named : Option ℕ) (before : ℕ) (s : List ℕ) (at : ℕ) → Told (Coded named before s at) (read_code named before s at)
+pub code_told : (named : Option ℕ) (before : ℕ) (s : List ℕ) (at : ℕ) → ReadTold (Coded named before s at) (read_code named before s at)
 unfolding Told read_code code_field
 code_told named before s at =
-    then_told (Ranged s at 1 15) F (read_ranged s at 1 15) _ (ranged_told s at 1 15)
+    then_read (Ranged s at 1 15) P (read_ranged s at 1 15) _ (ranged_told s at 1 15)
     (λ count next e p.
-    then_told (Spans s next) F (read_number s next) _ (number_told s next)
+    then_read (Spans s next) P (read_number s next) _ (number_told s next)
     (λ v end f q.
     let ds : List ℕ = digits count v in
     either F (ltb v (10 ^ count)) _ _
@@ -62,9 +63,10 @@ code_told named before s at =
     (λ i. omega arith))
     (λ r. omega arith))
     (λ c. omega arith))
-    (λ w. omega arith))
-    (λ n k. k))
-    (λ n k. k)
+    (λ w. omega arith)))
   where
+    P : ℕ × ℕ → Type 0
+    P r = Coded named before s at r.0 r.1
+
     F : Read ℕ → Type 0
-    F = Told (Coded named before s at)
+    F = Told P

@@ -8,7 +8,7 @@ ghost use Rattle.line_terms.specs.TermsRule.{status_number, status_of, most_seco
 use rate::{Offer, Price, Rate};
 use refusal::{Read, Refusal};
 
-// A line's status, and its number.
+// A line's status.
 #[derive(Clone, Copy, PartialEq, Eq)]
 pub enum Status {
     Delete = 0,
@@ -16,11 +16,12 @@ pub enum Status {
     Rate = 2,
 }
 
-impl Status {
-    pub fn number(self) -> u64
-        ensures { result ≡ status_number self }
-    {
-        self as u64
+// The number of a status.
+impl From<Status> for u64 {
+    ghost from_gives = { λ status number. number ≡ status_number status };
+
+    fn from(status: Status) -> u64 {
+        status as u64
     }
 }
 

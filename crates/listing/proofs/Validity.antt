@@ -20,9 +20,9 @@ use Rattle.book_words.specs.Layout.{entries_of}
 use Rattle.book.specs.Soundness.{sound}
 use Rattle.book_words.specs.declared.Entry.{Entry}
 use Rattle.book.proofs.SoundLists.{After, same, next, Allowed, SoundFrom, Sound, entries_sound}
-use Rattle.book.proofs.Statuses.{Before, smaller, earlier, before_on, before_after}
+use Rattle.book.proofs.Statuses.{held_in_range, Before, smaller, earlier, before_on, before_after}
 use Rattle.standing.specs.Pass.{is_replaced, stands, entry_line, added_by, passed}
-use Rattle.standing.proofs.Sizes.{offer_in_range, adds_none, adds_one}
+use Rattle.standing.proofs.Sizes.{adds_none, adds_one}
 use Rattle.listing.specs.List.{standing_lines, standing_notice}
 use Rattle.listing.proofs.Passing.{in_one_pass}
 use Rattle.listing.proofs.Turns.{few}
@@ -41,7 +41,7 @@ unfolding entry_line
 entry_valid e before a l =
     record {
       allowed = a.code;
-      is_in_range = offer_in_range e.offer;
+      is_in_range = held_in_range e.offer;
       few = omega arith;
       rises = l;
       inside = λ c q. cc;

@@ -57,12 +57,13 @@ impl<'a> StandingList<'a> {
         Ok(StandingList { words, day, lines })
     }
 
+    // The fields before the lines are sized here, and written below: a call each.
     // Whether so many bytes hold it. Its lines' sizes are added up only where lines of the largest size would not fit.
     fn fits(&self, room: usize) -> bool
         ensures { result ≡ leb (length (list_of self.now.words.now self.now.day)) room }
     {
         let header = notice_writing::header_size(
-            Kind::Full.number(),
+            u64::from(Kind::Full),
             self.day.0,
             0,
             self.lines as u64,
@@ -80,7 +81,7 @@ impl<'a> StandingList<'a> {
         let at = notice_writing::write_header(
             out,
             0,
-            Kind::Full.number(),
+            u64::from(Kind::Full),
             self.day.0,
             0,
             self.lines as u64,

@@ -2,21 +2,22 @@
 -- nothing.
 use mathlib.Core.Path.{◌≡◌, refl, ap, sym, ◌∙◌}
 use mathlib.Core.Bool.{Bool, true, false, cond}
-use mathlib.Core.List.{List}
-use Prim.Native.Nat.{ℕ, zero, suc, ◌+◌, ◌-◌, ◌*◌, ◌/◌, ◌≤◌, ◌<◌}
+use mathlib.Core.List.{List, []}
+use Prim.Native.Nat.{ℕ, zero, suc, ◌+◌, ◌-◌, ◌/◌, ◌≤◌, ◌<◌}
 use native.Mathlib.Numerals.{sub-one}
 use native.Mathlib.Omega.{arith}
 use borrow.Author.Tests.{leb-true, leb-false, ltb-true, ltb-false, eqb-true, eqb-false}
 use borrow.Author.Tests.{eq-eqb, ne_eqb, lt-leb, lt-ltb, le-ltb}
 use lib.Dec.{eqb, leb, ltb}
-use lib.ListN.{length}
+use lib.ListN.{length, take}
+use lib.Seq.{length-take-le, get_or-take}
 use Rattle.dial_code.proofs.Tests.{below, equal, above, order}
-use Rattle.book_words.specs.Layout.{header_words, entry_words, count_of, no_entry, entry_at, entries_from, entries_of}
-use Rattle.longest_match.specs.Search.{not_after, halved, up_to, found_up_to, last_entry, own_word}
+use Rattle.book_words.specs.Layout.{no_entry, entries_of}
+use Rattle.longest_match.specs.Search.{not_after, halved, up_to, found_up_to, entries_up_to, last_entry, own_word}
 use Rattle.book.specs.Soundness.{sound}
 use Rattle.book.specs.Status.{status_from, status_in}
 use Rattle.book_words.specs.declared.Entry.{Entry}
-use Rattle.book_words.proofs.Rows.{entry_in, of_book, row_at, length_rows}
+use Rattle.book_words.proofs.Rows.{entry_in}
 use Rattle.book.proofs.SoundLists.{Sound, entries_sound}
 use Rattle.book.proofs.Statuses.{Before, smaller, earlier, starts_closed, last_entry_law, no_last_entry}
 
@@ -114,43 +115,53 @@ module _ (test : ℕ → Bool) where
       by_test lo hi n b e true q f g = rw (goes_behind (suc n) lo hi b e q, sub-one) (from_behind lo hi _ _ (omega arith) q f)
       by_test lo hi n b e false q f g = rw (goes_before (suc n) lo hi b e q, sub-one) (from_before lo hi _ _ (omega arith) q g)
 
--- Such a place among the entries of some words.
-pub halving : (ws : List ℕ) (count k d : ℕ) → found_up_to ws count k d ≡ halved (up_to ws k d) count 0 count
-unfolding found_up_to
-halving ws count k d = refl
+-- A test that is the same between the ends turns at the same place.
+pub turns_alike :
+    (test other : ℕ → Bool) (hi r : ℕ)
+    → ((i : ℕ) → i < hi → test i ≡ other i)
+    → Turns test 0 hi r
+    → Turns other 0 hi r
+turns_alike test other hi r e t = record {
+  least = t.least;
+  most = t.most;
+  holds_before = λ q. sym (e (r - 1) (omega (arith, t.most))) ∙ t.holds_before q;
+  fails_there = λ q. sym (e r q) ∙ t.fails_there q;
+}
 
-pub found_turns : (ws : List ℕ) (count k d : ℕ) → Turns (up_to ws k d) 0 count (found_up_to ws count k d)
-found_turns ws count k d = rw halving (turns (up_to ws k d) count 0 count (omega arith) (omega arith))
+-- Such a place among some entries, and the entries before it.
+module _ (es : List Entry) (k d : ℕ) where
+  pub halving : found_up_to es k d ≡ halved (up_to es k d) (length es) 0 (length es)
+  unfolding found_up_to
+  halving = refl
 
-pub found_most : (ws : List ℕ) (count k d : ℕ) {n : ℕ} → n ≡ found_up_to ws count k d → n ≤ count
-found_most ws count k d e = rw e (found_turns ws count k d).most
+  pub found_turns : Turns (up_to es k d) 0 (length es) (found_up_to es k d)
+  found_turns = rw halving (turns (up_to es k d) (length es) 0 (length es) (omega arith) (omega arith))
 
--- The test of an entry that was read.
-pub tested :
-    (ws : List ℕ) (k d i : ℕ) {e : Entry} {t u : Bool}
-    → e ≡ entry_at ws (header_words + i * entry_words)
-    → t ≡ not_after e k d
-    → t ≡ u
-    → up_to ws k d i ≡ u
-tested ws k d i q r s = ap (λ (x : Entry). not_after x k d) (sym q) ∙ sym r ∙ s
+  pub found_most : {n : ℕ} → n ≡ found_up_to es k d → n ≤ length es
+  found_most e = rw e found_turns.most
 
--- Where the words of some entries are there, so are those of what is found.
-pub found_room :
-    (ws : List ℕ) (count k d : ℕ) {n : ℕ}
-    → count * entry_words ≤ length ws - header_words
-    → n ≡ found_up_to ws count k d
-    → n * entry_words ≤ length ws - header_words
-found_room ws count k d h e = omega (arith, found_most ws count k d e)
+  pub found_entries : {n : ℕ} → n ≡ found_up_to es k d → take n es ≡ entries_up_to es k d
+  unfolding entries_up_to
+  found_entries e = ap (λ (i : ℕ). take i es) e
 
--- The last of some entries, by the test of the code.
-module _ (ws : List ℕ) (n : ℕ) where
-  pub no_last : n ≡ 0 → last_entry ws n ≡ no_entry
-  unfolding last_entry
-  no_last h = rw (eq-eqb n 0 h)
+  -- The test of an entry that was read.
+  pub tested : (i : ℕ) {e : Entry} {t u : Bool} → e ≡ entry_in es i → t ≡ not_after e k d → t ≡ u → up_to es k d i ≡ u
+  tested i q r s = ap (λ (x : Entry). not_after x k d) (sym q) ∙ sym r ∙ s
 
-  pub some_last : (n ≡ 0 → ⊥) → last_entry ws n ≡ entry_at ws (header_words + (n - 1) * entry_words)
-  unfolding last_entry
-  some_last h = rw (ne_eqb n 0 h)
+-- The last of some entries, and of the first of them.
+pub no_last : last_entry [] ≡ no_entry
+unfolding last_entry
+no_last = refl
+
+pub some_last : (es : List Entry) {e : Entry} → e ≡ entry_in es (length es - 1) → e ≡ last_entry es
+unfolding last_entry
+some_last es q = q
+
+pub last_of_first : (es : List Entry) (n : ℕ) → 0 < n → n ≤ length es → last_entry (take n es) ≡ entry_in es (n - 1)
+unfolding last_entry
+last_of_first es n l h =
+    ap (λ (i : ℕ). entry_in (take n es) (i - 1)) (length-take-le n es h)
+    ∙ get_or-take n es (n - 1) no_entry (omega arith)
 
 -- The offer word of an entry of a code, and of another; one of zeros has no other word.
 module _ (e : Entry) (k : ℕ) where
@@ -212,16 +223,16 @@ after_smaller e x k d l h = is_after e x d (go (stands_after e k d h))
 
 -- What is found for a code is found for every smaller one that is larger than the key of the last entry found.
 pub found_between :
-    (ws : List ℕ) (x k d n r : ℕ)
+    (es : List Entry) (x k d r : ℕ)
     → x ≤ k
-    → (last_entry ws r).key < x
-    → Turns (up_to ws k d) 0 n r
-    → Turns (up_to ws x d) 0 n r
-found_between ws x k d n r l h t = record {
+    → (last_entry (take r es)).key < x
+    → Turns (up_to es k d) 0 (length es) r
+    → Turns (up_to es x d) 0 (length es) r
+found_between es x k d r l h t = record {
   least = t.least;
   most = t.most;
   holds_before = λ q.
-      let p = ap (λ (e : Entry). e.key) (some_last ws r (λ z. omega arith)) in
+      let p = ap (λ (e : Entry). e.key) (last_of_first es r q t.most) in
       is_smaller _ x d (omega (arith, h, p));
   fails_there = λ q. after_smaller _ x k d l (t.fails_there q);
 }
@@ -246,83 +257,83 @@ module _
     (ws : List ℕ)
     (s : sound ws ≡ true)
     (x d r : ℕ)
-    (t : Turns (up_to ws x d) 0 (count_of ws) r)
+    (t : Turns (up_to (entries_of ws) x d) 0 (length (entries_of ws)) r)
   where
     es : List Entry
-    es = entries_from ws header_words (count_of ws)
+    es = entries_of ws
 
     all_sound : Sound es
     unfolding es
-    all_sound = rw of_book at (entries_sound ws s)
+    all_sound = entries_sound ws s
 
-    from_rows : status_in (entries_of ws) x d ≡ status_from 0 es x d
-    unfolding es
-    from_rows = ap (λ (l : List Entry). status_in l x d) (of_book ws) ∙ starts_closed _ x d
+    from_rows : status_in es x d ≡ status_from 0 es x d
+    from_rows = starts_closed es x d
 
     behind : r < length es → Before (entry_in es r).key (entry_in es r).day x d
     unfolding es
-    behind l =
-        let m : r < count_of ws = omega (arith, length_rows ws header_words (count_of ws)) in
-        rw (row_at ws header_words (count_of ws) r m) (stands_after _ x d (t.fails_there m))
+    behind l = stands_after _ x d (t.fails_there l)
 
-    nothing_before : r ≡ 0 → 0 ≡ status_in (entries_of ws) x d
+    nothing_before : r ≡ 0 → 0 ≡ status_in es x d
     nothing_before z =
         sym (from_rows ∙ no_last_entry 0 0 0 0 es r x d all_sound (omega arith) (λ j q. absurd (omega arith)) behind)
 
-    module _ {e : Entry} (l : 0 < r) (q : e ≡ entry_at ws (header_words + (r - 1) * entry_words)) where
+    module _ {e : Entry} (l : 0 < r) (q : e ≡ entry_in es (r - 1)) where
       not_later : not_after e x d ≡ true
+      unfolding es
       not_later = ap (λ (g : Entry). not_after g x d) q ∙ t.holds_before l
 
-      row_before : entry_in es (r - 1) ≡ e
+      there : r - 1 < length es
       unfolding es
-      row_before = row_at ws header_words (count_of ws) (r - 1) (omega (arith, t.most)) ∙ sym q
+      there = omega (arith, t.most)
 
-      own_entry : e.key ≡ x → e.offer ≡ status_in (entries_of ws) x d
-      unfolding es
+      own_entry : e.key ≡ x → e.offer ≡ status_in es x d
       own_entry k =
           let f : suc (r - 1) ≡ r = omega arith in
           sym
           (from_rows
           ∙ last_entry_law 0 0 0 0 es (r - 1) x d
           all_sound
-          (omega (arith, t.most, length_rows ws header_words (count_of ws)))
-          (ap (λ (g : Entry). g.key) row_before ∙ k)
-          (rw row_before (in_time e x d not_later k))
+          there
+          (ap (λ (g : Entry). g.key) (sym q) ∙ k)
+          (rw (sym q) (in_time e x d not_later k))
           (rw f behind)
-          ∙ ap (λ (g : Entry). g.offer) row_before)
+          ∙ ap (λ (g : Entry). g.offer) (sym q))
 
-      other_entry : (e.key ≡ x → ⊥) → 0 ≡ status_in (entries_of ws) x d
-      unfolding es
+      other_entry : (e.key ≡ x → ⊥) → 0 ≡ status_in es x d
       other_entry n =
           sym
           (from_rows
           ∙ no_last_entry 0 0 0 0 es r x d
           all_sound
-          (omega (arith, t.most, length_rows ws header_words (count_of ws)))
-          (λ j z. let f : j ≡ r - 1 = omega arith in rw (f, row_before) (less_key e x d not_later n))
+          (omega (arith, there))
+          (λ j z. let f : j ≡ r - 1 = omega arith in rw (f, sym q) (less_key e x d not_later n))
           behind)
 
 -- In a sound book the last entry found has the status, where it is the code's.
 module _ (ws : List ℕ) (k d : ℕ) (s : sound ws ≡ true) where
-  pub last_status : (n : ℕ) → Turns (up_to ws k d) 0 (count_of ws) n → own_word (last_entry ws n) k ≡ status_in (entries_of ws) k d
-  last_status n f =
-      let e = entry_at ws (header_words + (n - 1) * entry_words) in
-      by_tests (eqb n 0) refl (eqb e.key k) refl
+  pub last_status : (n : ℕ)
+      → Turns (up_to (entries_of ws) k d) 0 (length (entries_of ws)) n
+      → own_word (last_entry (take n (entries_of ws))) k ≡ status_in (entries_of ws) k d
+  unfolding es
+  last_status n f = by_tests (eqb n 0) refl (eqb (entry_in (entries_of ws) (n - 1)).key k) refl
     where
-      by_tests : let e = entry_at ws (header_words + (n - 1) * entry_words) in
-          (t : Bool)
+      by_tests : (t : Bool)
           → eqb n 0 ≡ t
           → (u : Bool)
-          → eqb e.key k ≡ u
-          → own_word (last_entry ws n) k ≡ status_in (entries_of ws) k d
+          → eqb (entry_in (entries_of ws) (n - 1)).key k ≡ u
+          → own_word (last_entry (take n (entries_of ws))) k ≡ status_in (entries_of ws) k d
       by_tests true p u q =
           let z = eqb-true n 0 p in
-          ap (λ (e : Entry). own_word e k) (no_last ws n z) ∙ closed_offer _ k refl ∙ nothing_before ws s k d n f z
+          let none : last_entry (take n (entries_of ws)) ≡ no_entry =
+          ap (λ (i : ℕ). last_entry (take i (entries_of ws))) z ∙ no_last in
+          ap (λ (e : Entry). own_word e k) none ∙ closed_offer _ k refl ∙ nothing_before ws s k d n f z
       by_tests false p true q =
-          let z = eqb-false n 0 p in
+          let z : 0 < n = omega (arith, eqb-false n 0 p) in
           let l = eqb-true _ k q in
-          ap (λ (e : Entry). own_word e k) (some_last ws n z) ∙ own_offer _ k l ∙ own_entry ws s k d n f (omega (arith, z)) refl l
+          let e = last_of_first (entries_of ws) n z f.most in
+          ap (λ (e : Entry). own_word e k) e ∙ own_offer _ k l ∙ own_entry ws s k d n f z refl l
       by_tests false p false q =
-          let z = eqb-false n 0 p in
+          let z : 0 < n = omega (arith, eqb-false n 0 p) in
           let l = eqb-false _ k q in
-          ap (λ (e : Entry). own_word e k) (some_last ws n z) ∙ other_offer _ k l ∙ other_entry ws s k d n f (omega (arith, z)) refl l
+          let e = last_of_first (entries_of ws) n z f.most in
+          ap (λ (e : Entry). own_word e k) e ∙ other_offer _ k l ∙ other_entry ws s k d n f z refl l

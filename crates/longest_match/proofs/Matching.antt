@@ -9,8 +9,9 @@ use native.Mathlib.Numerals.{sub-one}
 use native.Mathlib.Omega.{arith}
 use borrow.Author.Tests.{le-leb, lt-leb}
 use lib.Dec.{lit<}
-use lib.ListN.{length, take}
-use lib.Seq.{take_all}
+use lib.ListN.{length, take, length-take}
+use lib.Seq.{length-take-le, get_or-take, take_all}
+use Rattle.std.proofs.lemmas.List.{take-take}
 use Rattle.dial_code.specs.Digits.{every, is_digit}
 use Rattle.dial_code.specs.Key.{key, prefix_key, keys_end, digits_of_key}
 use Rattle.dial_code.proofs.Tests.{below, equal, above, order}
@@ -22,15 +23,16 @@ use Rattle.allowed_code.proofs.CodeLaws.{no_first_digit}
 use Rattle.rate.specs.OfferWord.{offer_of}
 use Rattle.rate.specs.declared.Offer.{Offer}
 use Rattle.rate.specs.declared.Offer.TheVariants.{Closed, Blocked, Open}
-use Rattle.book_words.specs.Layout.{count_of, no_entry, entries_of}
+use Rattle.book_words.specs.Layout.{header_words, no_entry, entries_from, entries_of}
 use Rattle.book.specs.Soundness.{headed_count, sound}
-use Rattle.longest_match.specs.Search.{up_to, found_up_to, last_entry, own_word, tried, best_found}
+use Rattle.longest_match.specs.Search.{not_after, up_to, found_up_to, entries_up_to, last_entry, own_word, tried, best_found}
 use Rattle.book.specs.Status.{held_offer, offer_in}
 use Rattle.longest_match.specs.Match.{answer, is_standing, standing, longest, matched}
 use Rattle.longest_match.specs.declared.Answer.{Answer}
 use Rattle.book_words.specs.declared.Entry.{Entry}
-use Rattle.longest_match.proofs.Halving.{Turns, found_turns, found_widely, found_between, after_smaller, other_offer}
-use Rattle.longest_match.proofs.Halving.{found_most, no_last, closed_offer, last_status}
+use Rattle.longest_match.proofs.Halving.{Turns, turns_alike, found_turns, found_most, found_entries, found_widely, found_between, after_smaller}
+use Rattle.longest_match.proofs.Halving.{no_last, other_offer, closed_offer, last_status}
+use Rattle.book_words.proofs.Rows.{entry_in, of_book}
 use Rattle.book.proofs.Headers.{sound_count}
 use Rattle.book.proofs.SoundLists.{entries_sound}
 use Rattle.book.proofs.Statuses.{starts_closed, no_code}
@@ -163,163 +165,216 @@ prefix_rises w n =
       | above l ↦ rw (whole w (suc n) (omega arith)) (prefix_most w n)
     ]
 
--- The start, and one truncation of a word: none is left, it lies above the bound, or it is searched for.
-module _ (ws : List ℕ) (w d : ℕ) where
-  pub starts : {n : ℕ} → n ≡ headed_count ws → best_found ws w d ≡ tried ws w d 15 n w
-  unfolding best_found
-  starts e = rw e
+-- The start.
+pub starts :
+    (ws : List ℕ) (w d : ℕ) {es : List Entry}
+    → es ≡ entries_from ws header_words (headed_count ws)
+    → best_found ws w d ≡ tried es w d 15 w
+unfolding best_found
+starts ws w d e = ap (λ (es : List Entry). tried es w d 15 w) (sym e)
 
-  pub no_place : (n count bound : ℕ) → n ≡ 0 → tried ws w d n count bound ≡ answer 0 Closed
+-- One truncation of a word: none is left, it lies above the bound, or it is searched for.
+module _ (es : List Entry) (w d : ℕ) where
+  pub no_place : (n bound : ℕ) → n ≡ 0 → tried es w d n bound ≡ answer 0 Closed
   unfolding tried
-  no_place zero count bound e = refl
-  no_place (suc n) count bound e = absurd (omega arith)
+  no_place zero bound e = refl
+  no_place (suc n) bound e = absurd (omega arith)
 
   pub passed_by :
-      (n count bound k : ℕ)
+      (n bound k : ℕ)
       → 0 < n
       → k ≡ prefix_key w n
       → bound < k
-      → tried ws w d n count bound ≡ tried ws w d (n - 1) count bound
+      → tried es w d n bound ≡ tried es w d (n - 1) bound
   unfolding tried
-  passed_by zero count bound k h e l = absurd (omega arith)
-  passed_by (suc n) count bound k h e l = rw (lt-leb (prefix_key w (suc n)) bound (rw e at l), sub-one, tried)
+  passed_by zero bound k h e l = absurd (omega arith)
+  passed_by (suc n) bound k h e l = rw (lt-leb (prefix_key w (suc n)) bound (rw e at l), sub-one, tried)
 
   search :
-      (n count bound : ℕ)
+      (n bound : ℕ)
       → let k = prefix_key w (suc n) in
-      let found = found_up_to ws count k d in
-      let e = last_entry ws found in
+      let found = entries_up_to es k d in
+      let e = last_entry found in
       k ≤ bound
-      → tried ws w d (suc n) count bound
-      ≡ standing (held_offer (offer_of (own_word e k))) k (tried ws w d n found (min e.key (k - 1)))
+      → tried es w d (suc n) bound ≡ standing (held_offer (offer_of (own_word e k))) k (tried found w d n (min e.key (k - 1)))
   unfolding tried
-  search n count bound l = rw (le-leb (prefix_key w (suc n)) bound l, tried)
+  search n bound l = rw (le-leb (prefix_key w (suc n)) bound l, tried)
 
   pub searched :
-      (n count bound k : ℕ) {found : ℕ} {e : Entry} {word : ℕ} {o : Offer}
+      (n bound k : ℕ) {found : List Entry} {e : Entry} {word : ℕ} {o : Offer}
       → 0 < n
       → k ≡ prefix_key w n
       → k ≤ bound
-      → found ≡ found_up_to ws count k d
-      → e ≡ last_entry ws found
+      → found ≡ entries_up_to es k d
+      → e ≡ last_entry found
       → word ≡ own_word e k
       → o ≡ held_offer (offer_of word)
-      → tried ws w d n count bound ≡ standing o k (tried ws w d (n - 1) found (min e.key (k - 1)))
-  searched zero count bound k h p l f g v q = absurd (omega arith)
-  searched (suc n) count bound k h p l f g v q = rw (q, v, g, f, p, sub-one) (search n count bound (rw p at l))
+      → tried es w d n bound ≡ standing o k (tried found w d (n - 1) (min e.key (k - 1)))
+  searched zero bound k h p l f g v q = absurd (omega arith)
+  searched (suc n) bound k h p l f g v q = rw (q, v, g, f, p, sub-one) (search n bound (rw p at l))
 
-  -- With no entry left to search, none is found.
-  pub no_entry_law : (n count bound : ℕ) → count ≡ 0 → tried ws w d n count bound ≡ answer 0 Closed
-  unfolding offer_of
-  no_entry_law zero count bound e = no_place zero count bound refl
-  no_entry_law (suc n) count bound e =
-      let k = prefix_key w (suc n) in
-      let none : 0 ≡ found_up_to ws count k d = omega (arith, found_most ws count k d refl) in
-      let closed = sym (closed_offer no_entry k refl) in
-      let here : k ≤ bound → tried ws w d (suc n) count bound ≡ answer 0 Closed =
-      λ l.
-      searched (suc n) count bound k (omega arith) refl l none (sym (no_last ws 0 refl)) closed refl
-      ∙ rw sub-one (no_entry_law n 0 _ refl) in
-      elim (order bound k) [
-        | below b ↦ passed_by (suc n) count bound k (omega arith) refl b ∙ rw sub-one (no_entry_law n count bound e)
-        | equal b ↦ here (omega arith)
-        | above b ↦ here (omega arith)
-      ]
+-- With no entry left to search, none is found.
+none_of_none : (k d : ℕ) → [] ≡ entries_up_to [] k d
+unfolding entries_up_to
+none_of_none k d = refl
 
--- What the searches in a sound book have left: the entry behind the entries left is after every truncation to n places or fewer,
--- and these are closed where they lie above the bound.
-pub record Narrowed (ws : List ℕ) (w day n count bound : ℕ) : Type 0 where
-  pub among : count ≤ count_of ws
-  pub behind : (x : ℕ) → x ≤ prefix_key w n → count < count_of ws → up_to ws x day count ≡ false
+pub no_entry_law : (w d n bound : ℕ) → tried [] w d n bound ≡ answer 0 Closed
+unfolding offer_of
+no_entry_law w d zero bound = no_place [] w d zero bound refl
+no_entry_law w d (suc n) bound =
+    let k = prefix_key w (suc n) in
+    let closed = sym (closed_offer no_entry k refl) in
+    let here : k ≤ bound → tried [] w d (suc n) bound ≡ answer 0 Closed =
+    λ l.
+    searched [] w d (suc n) bound k (omega arith) refl l (none_of_none k d) (sym no_last) closed refl
+    ∙ rw sub-one (no_entry_law w d n _) in
+    elim (order bound k) [
+      | below b ↦ passed_by [] w d (suc n) bound k (omega arith) refl b ∙ rw sub-one (no_entry_law w d n bound)
+      | equal b ↦ here (omega arith)
+      | above b ↦ here (omega arith)
+    ]
+
+pub none_found :
+    (es : List Entry) (w d n bound k : ℕ) {found : List Entry}
+    → 0 < n
+    → k ≡ prefix_key w n
+    → k ≤ bound
+    → found ≡ entries_up_to es k d
+    → found ≡ []
+    → tried es w d n bound ≡ answer 0 Closed
+unfolding offer_of
+none_found es w d n bound k h p l f z =
+    searched es w d n bound k h p l (sym z ∙ f) (sym no_last) (sym (closed_offer no_entry k refl)) refl
+    ∙ no_entry_law w d (n - 1) _
+
+-- What the searches in a sound book have left: the first entries; the entry behind them is after every truncation to n places or
+-- fewer, and these are closed where they lie above the bound.
+pub record Narrowed (ws : List ℕ) (w day n : ℕ) (es : List Entry) (bound : ℕ) : Type 0 where
+  pub first : es ≡ take (length es) (entries_of ws)
+  pub behind : (x : ℕ) → x ≤ prefix_key w n → length es < length (entries_of ws) → up_to (entries_of ws) x day (length es) ≡ false
   pub closed : (x : ℕ) → bound < x → x ≤ prefix_key w n → is_standing (status_on ws day x) ≡ false
 
 -- All entries and the word itself, before the first search; and the same with a place fewer.
-all_left : (ws : List ℕ) (w day : ℕ) → Narrowed ws w day 15 (count_of ws) w
+all_left : (ws : List ℕ) (w day : ℕ) → Narrowed ws w day 15 (entries_of ws) w
 all_left ws w day = record {
-  among = omega arith;
+  first = sym (take_all (length (entries_of ws)) (entries_of ws) (omega arith));
   behind = λ x l h. absurd (omega arith);
   closed = λ x l h. absurd (omega (arith, prefix_most w 15));
 }
 
-fewer_places : (ws : List ℕ) (w day n count bound : ℕ) → Narrowed ws w day (suc n) count bound → Narrowed ws w day n count bound
-fewer_places ws w day n count bound r = record {
-  among = r.among;
+fewer_places :
+    (ws : List ℕ) (w day n : ℕ) (es : List Entry) (bound : ℕ)
+    → Narrowed ws w day (suc n) es bound
+    → Narrowed ws w day n es bound
+fewer_places ws w day n es bound r = record {
+  first = r.first;
   behind = λ x l. r.behind x (omega (arith, prefix_rises w n));
   closed = λ x h l. r.closed x h (omega (arith, prefix_rises w n));
 }
 
 module _ (ws : List ℕ) (w day : ℕ) (s : sound ws ≡ true) where
-  module _ (n count bound : ℕ) (r : Narrowed ws w day (suc n) count bound) where
+  all : List Entry
+  all = entries_of ws
+
+  module _ (n : ℕ) (es : List Entry) (bound : ℕ) (r : Narrowed ws w day (suc n) es bound) where
     k : ℕ
     k = prefix_key w (suc n)
 
     found : ℕ
-    found = found_up_to ws count k day
+    found = found_up_to es k day
 
-    found_all : Turns (up_to ws k day) 0 (count_of ws) found
-    unfolding k found
-    found_all = found_widely _ (count_of ws) count _ r.among (r.behind k (omega arith)) (found_turns ws count k day)
+    among : length es ≤ length all
+    unfolding all
+    among = omega (arith, ap length r.first, length-take (length es) (entries_of ws))
 
-    -- the offer of the last entry found is the truncation's own
-    found_own : held_offer (offer_of (own_word (last_entry ws found) k)) ≡ status_on ws day k
-    unfolding offer_in
+    same_test : (i : ℕ) → i < length es → up_to es k day i ≡ up_to all k day i
+    unfolding all
+    same_test i h =
+        ap (λ (e : Entry). not_after e k day)
+        (ap (λ (l : List Entry). entry_in l i) r.first ∙ get_or-take (length es) (entries_of ws) i no_entry h)
+
+    found_all : Turns (up_to all k day) 0 (length all) found
+    unfolding k found all
+    found_all =
+        found_widely _ (length all) (length es) _ among
+        (r.behind k (omega arith))
+        (turns_alike _ _ (length es) _ same_test (found_turns es k day))
+
+    -- the entries found are so many of the first
+    found_first : entries_up_to es k day ≡ take found all
+    unfolding found all
+    found_first =
+        sym (found_entries es k day refl)
+        ∙ ap (take found) r.first
+        ∙ take-take found (length es) (entries_of ws) (found_most es k day refl)
+
+    -- the offer of the last of them is the truncation's own
+    found_own : held_offer (offer_of (own_word (last_entry (take found all)) k)) ≡ status_on ws day k
+    unfolding offer_in all
     found_own = ap (λ (x : ℕ). held_offer (offer_of x)) (last_status ws k day s found found_all)
 
     -- and nothing lies between them
-    none_between : (x : ℕ) → (last_entry ws found).key < x → x ≤ k → is_standing (status_on ws day x) ≡ false
-    unfolding offer_in offer_of
+    none_between : (x : ℕ) → (last_entry (take found all)).key < x → x ≤ k → is_standing (status_on ws day x) ≡ false
+    unfolding offer_in offer_of all
     none_between x h l =
-        let e = last_entry ws found in
-        let t = found_between ws x k day (count_of ws) found l h found_all in
+        let e = last_entry (take found all) in
+        let t = found_between all x k day found l h found_all in
         ap (λ (o : ℕ). is_standing (held_offer (offer_of o)))
         (sym (last_status ws x day s found t) ∙ other_offer e x (λ q. omega arith))
 
     narrows :
         is_standing (status_on ws day k) ≡ false
-        → Narrowed ws w day n found (min (last_entry ws found).key (k - 1))
-    unfolding k
-    narrows z = record {
-      among = found_all.most;
-      behind = λ x l h. after_smaller _ x k day (omega (arith, prefix_rises w n)) (found_all.fails_there h);
-      closed = λ x h l. elim (order x k) [
-        | below b ↦ none_between x (omega arith) (omega arith)
-        | equal b ↦ ap (λ (y : ℕ). is_standing (status_on ws day y)) b ∙ z
-        | above b ↦ absurd (omega (arith, prefix_rises w n))
-      ];
-    }
+        → Narrowed ws w day n (entries_up_to es k day) (min (last_entry (entries_up_to es k day)).key (k - 1))
+    unfolding k all
+    narrows z =
+        let many : length (take found all) ≡ found = length-take-le found all found_all.most in
+        rw found_first
+        (record {
+          first = ap (λ (i : ℕ). take i all) (sym many);
+          behind = λ x l h.
+              let there : found < length all = omega (arith, many, h) in
+              rw many (after_smaller _ x k day (omega (arith, prefix_rises w n)) (found_all.fails_there there));
+          closed = λ x h l. elim (order x k) [
+            | below b ↦ none_between x (omega arith) (omega arith)
+            | equal b ↦ ap (λ (y : ℕ). is_standing (status_on ws day y)) b ∙ z
+            | above b ↦ absurd (omega (arith, prefix_rises w n))
+          ];
+        })
 
     -- so that its own offer is the answer, or what is tried after it
     goes_on :
         {a : Answer}
         → k ≤ bound
-        → (is_standing (status_on ws day k) ≡ false → tried ws w day n found (min (last_entry ws found).key (k - 1)) ≡ a)
-        → tried ws w day (suc n) count bound ≡ standing (status_on ws day k) k a
-    unfolding k found
+        → (is_standing (status_on ws day k) ≡ false
+        → tried (entries_up_to es k day) w day n (min (last_entry (entries_up_to es k day)).key (k - 1)) ≡ a)
+        → tried es w day (suc n) bound ≡ standing (status_on ws day k) k a
+    unfolding k
     goes_on l h =
-        searched ws w day (suc n) count bound k (omega arith) refl l refl refl refl (sym found_own)
+        searched es w day (suc n) bound k (omega arith) refl l refl refl refl
+        (sym (ap (λ (f : List Entry). held_offer (offer_of (own_word (last_entry f) k))) found_first ∙ found_own))
         ∙ rw sub-one (same_rest (status_on ws day k) k _ _ h)
 
   -- In a sound book it finds the longest match of a key's digits.
   tried_longest :
       key (digits_of_key w) ≡ w
-      → (n count bound : ℕ)
-      → Narrowed ws w day n count bound
-      → tried ws w day n count bound ≡ longest (status_on ws day) (digits_of_key w) n
+      → (n : ℕ) (es : List Entry) (bound : ℕ)
+      → Narrowed ws w day n es bound
+      → tried es w day n bound ≡ longest (status_on ws day) (digits_of_key w) n
   unfolding tried longest k
-  tried_longest q zero count bound r = refl
-  tried_longest q (suc n) count bound r =
+  tried_longest q zero es bound r = refl
+  tried_longest q (suc n) es bound r =
       let f = status_on ws day in
       let x = prefix_key w (suc n) in
       let d = word_digits w in
       let p = key_take (suc n) (digits_of_key w) d.0 d.1 ∙ ap (λ (y : ℕ). prefix_key y (suc n)) q in
       let a = longest f (digits_of_key w) n in
       let last = sym (rw sub-one at (one_try f (digits_of_key w) (suc n) x (omega arith) (sym p))) in
-      let here : x ≤ bound → tried ws w day (suc n) count bound ≡ longest f (digits_of_key w) (suc n) =
-      λ l. goes_on n count bound r l (λ z. tried_longest q n _ _ (narrows n count bound r z)) ∙ last in
+      let here : x ≤ bound → tried es w day (suc n) bound ≡ longest f (digits_of_key w) (suc n) =
+      λ l. goes_on n es bound r l (λ z. tried_longest q n _ _ (narrows n es bound r z)) ∙ last in
       elim (order bound x) [
         | below b ↦
-            passed_by ws w day (suc n) count bound x (omega arith) refl b
-            ∙ rw sub-one (tried_longest q n count bound (fewer_places ws w day n count bound r))
+            passed_by es w day (suc n) bound x (omega arith) refl b
+            ∙ rw sub-one (tried_longest q n es bound (fewer_places ws w day n es bound r))
             ∙ sym (passes (f x) x a (r.closed x b (omega arith)))
             ∙ last
         | equal b ↦ here (omega arith)
@@ -332,8 +387,7 @@ pub best_found_law :
     → sound ws ≡ true
     → key (digits_of_key w) ≡ w
     → best_found ws w day ≡ matched (status_on ws day) (digits_of_key w)
-unfolding best_found
 best_found_law ws w day s q =
-    ap (λ (c : ℕ). tried ws w day 15 c w) (sound_count ws s)
-    ∙ tried_longest ws w day s q 15 (count_of ws) w (all_left ws w day)
+    starts ws w day (of_book ws ∙ ap (entries_from ws header_words) (sym (sound_count ws s)))
+    ∙ tried_longest ws w day s q 15 (entries_of ws) w (all_left ws w day)
     ∙ more_tries (status_on ws day) (digits_of_key w) 15 (none_at_zero ws day s) (word_digits w).1

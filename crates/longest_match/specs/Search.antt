@@ -1,11 +1,11 @@
--- The search by halving, over any words. In a sound book it finds what `Status` says (proofs/Halving.antt, Matching.antt); in any
--- other, what it comes upon.
-use Rattle.std.specs.Prelude.{Bool, true, false, cond, List, ℕ, zero, suc, ◌+◌, ◌-◌, ◌*◌, ◌/◌, min, eqb, leb, ltb}
+-- The search by halving, over any entries. In a sound book it finds what `Status` says (proofs/Halving.antt, Matching.antt); in
+-- any other, what it comes upon.
+use Rattle.std.specs.Prelude.{Bool, true, false, cond, List, ℕ, zero, suc, ◌+◌, ◌-◌, ◌/◌, min, eqb, leb, ltb, length, get_or, take}
 use Rattle.dial_code.specs.Digits.{most_digits}
 use Rattle.dial_code.specs.Key.{prefix_key}
 use Rattle.rate.specs.OfferWord.{offer_of}
 use Rattle.rate.specs.declared.Offer.TheVariants.{Closed}
-use Rattle.book_words.specs.Layout.{header_words, entry_words, no_entry, entry_at}
+use Rattle.book_words.specs.Layout.{header_words, no_entry, entries_from}
 use Rattle.book.specs.Soundness.{headed_count}
 use Rattle.book.specs.Status.{held_offer}
 use Rattle.longest_match.specs.Match.{answer, standing}
@@ -30,39 +30,43 @@ halved test (suc n) lo hi =
       | false ↦ lo
     ]
 
--- How many of the first entries stand no later than a code and a day, as halving finds by a test of single entries.
-abbrev pub up_to : List ℕ → ℕ → ℕ → ℕ → Bool
-up_to ws k d i = not_after (entry_at ws (header_words + i * entry_words)) k d
+-- How many of some entries stand no later than a code and a day, as halving finds by a test of single entries; and so many of
+-- the first.
+abbrev pub up_to : List Entry → ℕ → ℕ → ℕ → Bool
+up_to es k d i = not_after (get_or es i no_entry) k d
 
-unfoldable pub found_up_to : List ℕ → ℕ → ℕ → ℕ → ℕ
-unfolding halved not_after entry_at
-found_up_to ws count k d = halved (up_to ws k d) count 0 count
+unfoldable pub found_up_to : List Entry → ℕ → ℕ → ℕ
+unfolding halved not_after
+found_up_to es k d = halved (up_to es k d) (length es) 0 (length es)
 
--- The last of the first n entries, and one of zeros where there is none.
-unfoldable pub last_entry : List ℕ → ℕ → Entry
-unfolding entry_at
-last_entry ws n = cond (eqb n 0) no_entry (entry_at ws (header_words + (n - 1) * entry_words))
+unfoldable pub entries_up_to : List Entry → ℕ → ℕ → List Entry
+unfolding found_up_to
+entries_up_to es k d = take (found_up_to es k d) es
+
+-- The last of some entries, and one of zeros where there is none.
+unfoldable pub last_entry : List Entry → Entry
+last_entry es = get_or es (length es - 1) no_entry
 
 -- The offer word of an entry where it is the code's, and closed where it is another's.
 unfoldable pub own_word : Entry → ℕ → ℕ
 own_word e k = cond (eqb e.key k) e.offer 0
 
 -- The longest truncation of a word, to its first n places or fewer, that is found open or blocked on a day; else closed with
--- key 0. So many entries are left to search, and truncations above a bound are passed over: a search leaves the entries it
--- found, and as the bound the key of the last of them, or what is just below the truncation where that is the same.
-unfoldable pub tried : List ℕ → ℕ → ℕ → ℕ → ℕ → ℕ → Answer
-unfolding prefix_key found_up_to last_entry own_word
-tried ws w d zero count bound = answer 0 Closed
-tried ws w d (suc n) count bound =
+-- key 0. Truncations above a bound are passed over: a search leaves the entries it found to search, and as the bound the key of
+-- the last of them, or what is just below the truncation where that is the same.
+unfoldable pub tried : List Entry → ℕ → ℕ → ℕ → ℕ → Answer
+unfolding prefix_key entries_up_to last_entry own_word
+tried es w d zero bound = answer 0 Closed
+tried es w d (suc n) bound =
     let k = prefix_key w (suc n) in
-    let found = found_up_to ws count k d in
-    let e = last_entry ws found in
+    let found = entries_up_to es k d in
+    let e = last_entry found in
     elim (leb k bound) [
-      | true ↦ standing (held_offer (offer_of (own_word e k))) k (tried ws w d n found (min e.key (k - 1)))
-      | false ↦ tried ws w d n count bound
+      | true ↦ standing (held_offer (offer_of (own_word e k))) k (tried found w d n (min e.key (k - 1)))
+      | false ↦ tried es w d n bound
     ]
 
 -- The answer to a word on a day: the word is tried, then its truncations, the longest first.
 unfoldable pub best_found : List ℕ → ℕ → ℕ → Answer
-unfolding headed_count tried
-best_found ws w d = tried ws w d most_digits (headed_count ws) w
+unfolding headed_count entries_from tried
+best_found ws w d = tried (entries_from ws header_words (headed_count ws)) w d most_digits w

@@ -20,7 +20,7 @@ use Rattle.refusal.specs.declared.Refusal.TheVariants.{NotANumber, TimeOutOfRang
 use Rattle.std.proofs.Common.{Ok, Err}
 use Rattle.refusal.specs.declared.Refusal.{Refusal}
 
-number_test : (s : List ℕ) → number_key s ≡ cond (is_dialled s) (Ok (key (map digit_of s))) (Err NotANumber)
+pub number_test : (s : List ℕ) → number_key s ≡ cond (is_dialled s) (Ok (key (map digit_of s))) (Err NotANumber)
 unfolding number_key
 number_test s = refl
 

@@ -9,7 +9,8 @@ ghost use Rattle.merge_rule.specs.Passes.{goes_on, unlisted_as, gap_below, rest_
 ghost use Rattle.merge.specs.Merge.{most_merged, merged_answer, merged_leaves};
 
 use book_words::{Entries, Entry};
-use effect::Plan;
+use closing::Closings;
+use notice::Lines;
 
 // What a merge comes to: how many entries, and the latest effective day.
 #[derive(Clone, Copy, PartialEq, Eq)]
@@ -18,7 +19,9 @@ pub struct Merged {
     pub latest: u64,
 }
 
-// Where a merge stands: the old entries that are left, and how many entries the new book has so far.
+// Where a merge stands: the old entries that are left, and how many entries the new book has so far. That these stay few is no
+// invariant: a line adds an entry that no old entry pays for, so that passing one asks for more than it keeps. The new words stand
+// beside it and not in it: what a pass leaves in them is said of the slice that was lent.
 #[derive(Drop)]
 struct Place<'a> {
     rest: Entries<'a>,
@@ -49,7 +52,7 @@ fn goes_on(rest: &Entries, e: Entry, day: u64) -> bool
 }
 
 // Puts what stays of an entry whose code the notice does not list, before the entries after it. Answers how many entries the new
-// book then has.
+// book then has. Closed is the word 0 here: words of a book, which may be any, are compared and put as they stand.
 #[tactic(auto, unfolding(merge_rule::specs::Passes::unlisted_as, merge_rule::specs::Passes::closed_one, book_words::specs::Layout::put_entries))]
 fn put_unlisted(
     e: Entry,
@@ -86,32 +89,28 @@ fn put_unlisted(
 // Passes the entries of keys below one, none of which the notice lists. Whether they are closed is worked out once for codes that
 // follow one another and are closed alike.
 #[tactic(auto, unfolding(merge_rule::specs::Passes::gap_below, merge_rule::specs::Passes::rest_from, book_words::specs::Layout::put_entries), using(book_words::proofs::Places::puts_append, closing::proofs::ClosingLaws::anyway_alike, closing::proofs::ClosingLaws::range_alike, closing::proofs::ClosingLaws::range_closed))]
-fn pass_unlisted<'a>(
-    from: Place<'a>,
-    below: u64,
-    plan: Plan,
-    marks: &[u8; 1000],
-    new: &mut [u64],
-) -> Place<'a>
+fn pass_unlisted<'a>(from: Place<'a>, below: u64, closings: Closings, new: &mut [u64]) -> Place<'a>
     requires { from.count + 2 * length from.rest ≤ most_merged }
     ensures rest { result.rest ≡ rest_from below from.entry.rest }
-    ensures count { result.count ≡ from.entry.count + length (gap_below below (closes_by plan marks.now) plan.closing from.entry.rest) }
-    ensures after { new.new ≡ put_entries new.old from.entry.count (gap_below below (closes_by plan marks.now) plan.closing from.entry.rest) }
+    ensures count { result.count ≡ from.entry.count + length (gap_below below (closes_by closings.entry.plan closings.entry.marks.now) closings.entry.plan.closing from.entry.rest) }
+    ensures after { new.new ≡ put_entries new.old from.entry.count (gap_below below (closes_by closings.entry.plan closings.entry.marks.now) closings.entry.plan.closing from.entry.rest) }
 {
     let Place {
         mut rest,
         mut count,
     } = from;
-    let mut alike = closing::closed_anyway(plan);
+    let day = closings.plan.closing;
+    let mut alike = closings.closed_anyway();
+    // No `for`: it stops before an entry that it leaves to the next pass.
     while let Some(e) = rest.peek() {
         if below <= e.key {
             return Place { rest, count };
         }
         if !alike.keys.contains(&e.key) {
-            alike = closing::closed_range(plan, marks, e.key);
+            alike = closings.closed_range(e.key);
         }
         rest.next();
-        count = put_unlisted(e, &rest, alike.closed, plan.closing, new, count);
+        count = put_unlisted(e, &rest, alike.closed, day, new, count);
     }
     Place { rest, count }
 }
@@ -130,6 +129,7 @@ fn keep_listed<'a>(from: Place<'a>, change: Entry, new: &mut [u64]) -> (Place<'a
         mut count,
     } = from;
     let mut status = 0;
+    // No `for`: it stops before an entry that it leaves to the next pass.
     while let Some(e) = rest.peek() {
         if e.key != change.key {
             return (Place { rest, count }, status);
@@ -165,19 +165,13 @@ fn pass_listed<'a>(from: Place<'a>, change: Entry, new: &mut [u64]) -> Place<'a>
 
 // Passes the entries up to a line's code, and those of the code itself.
 #[tactic(auto, unfolding(merge_rule::specs::Passes::line_entries, merge_rule::specs::Passes::line_rest), using(book_words::proofs::Stores::puts_on, merge_rule::proofs::MergedLength::gap_length))]
-fn pass_line<'a>(
-    from: Place<'a>,
-    change: Entry,
-    plan: Plan,
-    marks: &[u8; 1000],
-    new: &mut [u64],
-) -> Place<'a>
+fn pass_line<'a>(from: Place<'a>, change: Entry, closings: Closings, new: &mut [u64]) -> Place<'a>
     requires { from.count + 2 * length from.rest ≤ most_merged }
     ensures rest { result.rest ≡ line_rest change from.entry.rest }
-    ensures count { result.count ≡ from.entry.count + length (line_entries change (closes_by plan marks.now) plan.closing from.entry.rest) }
-    ensures after { new.new ≡ put_entries new.old from.entry.count (line_entries change (closes_by plan marks.now) plan.closing from.entry.rest) }
+    ensures count { result.count ≡ from.entry.count + length (line_entries change (closes_by closings.entry.plan closings.entry.marks.now) closings.entry.plan.closing from.entry.rest) }
+    ensures after { new.new ≡ put_entries new.old from.entry.count (line_entries change (closes_by closings.entry.plan closings.entry.marks.now) closings.entry.plan.closing from.entry.rest) }
 {
-    let to = pass_unlisted(from, change.key, plan, marks, new);
+    let to = pass_unlisted(from, change.key, closings, new);
     pass_listed(to, change, new)
 }
 
@@ -188,30 +182,23 @@ pub fn merge(
     notice: &[u8],
     start: usize,
     lines: u64,
-    plan: Plan,
-    marks: &[u8; 1000],
+    closings: Closings,
     new: &mut [u64],
 ) -> Merged
-    ensures value { result ≡ merged_answer old.now plan marks.now notice.now start lines }
-    ensures after { new.new ≡ merged_leaves old.now plan marks.now notice.now start lines
-        new.old }
+    ensures value { result ≡ merged_answer old.now closings.entry.plan closings.entry.marks.now notice.now start lines }
+    ensures after { new.new ≡ merged_leaves old.now closings.entry.plan closings.entry.marks.now notice.now start lines new.old }
 {
     let mut place = Place {
-        rest: Entries::of(old, book::headed_count(old)),
+        rest: book::entries(old),
         count: 0,
     };
     let mut latest = book_words::header_of(old).latest;
-    let mut at = start;
-    for _ in 0..lines.min(notice_header::MOST_LINES) {
-        let Ok((line, end)) = notice_line::line_at(notice, at) else {
-            break;
-        };
-        let change = effect::change_of(old, plan, line);
+    for line in Lines::of(notice, start, lines.min(notice_header::MOST_LINES)) {
+        let change = effect::change_of(old, closings.plan, line);
         latest = latest.max(change.day);
-        place = pass_line(place, change, plan, marks, new);
-        at = end;
+        place = pass_line(place, change, closings, new);
     }
-    let to = pass_unlisted(place, dial_code::KEYS_END, plan, marks, new);
+    let to = pass_unlisted(place, dial_code::KEYS_END, closings, new);
     Merged {
         count: to.count,
         latest,

@@ -1,6 +1,6 @@
 -- The lines of a notice, one at a time: what is read first, how many there are, and that each is valid after the one before.
 -- Assumes nothing.
-use mathlib.Core.Path.{◌≡◌, refl, ap, sym, ◌∙◌, subst}
+use mathlib.Core.Path.{◌≡◌, refl, ap, sym, ◌∙◌}
 use mathlib.Core.List.{List, [], ◌∷◌}
 use Prim.Native.Nat.{ℕ, zero, suc, ◌+◌, ◌-◌, ◌≤◌, ◌<◌}
 use native.Mathlib.Omega.{arith}
@@ -10,11 +10,10 @@ use Rattle.notice_line.specs.LineRule.{read_line, line_at}
 use Rattle.notice.specs.NoticeRule.{Lines, read_lines}
 use Rattle.notice_line.specs.declared.Line.{Line}
 use Rattle.varint.proofs.Links.{on_value}
-use Rattle.varint.proofs.Told.{Known}
-use Rattle.notice_line.proofs.LineLaws.{ValidLine, Taken, LineTold, line_told, line_spans, line_alone}
+use Rattle.refusal.proofs.Told.{Told, tells, then_told, then_read}
+use Rattle.notice_line.proofs.LineLaws.{ValidLine, Taken, line_told, line_spans, line_alone}
 use Rattle.refusal.specs.Steps.{◌>>=◌, Read, ok_at}
 use Rattle.std.proofs.Common.{Option, Some, Ok, Err}
-use Rattle.refusal.specs.declared.Refusal.{Refusal}
 
 -- A line, and the lines read after it.
 abbrev pub with_first : Line → Lines → Lines
@@ -94,44 +93,24 @@ unfoldable pub ValidFrom : Option ℕ → Option Line → List Line → Type 0
 ValidFrom named before [] = Unit {0}
 ValidFrom named before (l ∷ ls) = ValidLine named before l × ValidFrom named (Some l) ls
 
-unfoldable pub LinesTold : ℕ → Option ℕ → Option Line → Lines → Type 0
-LinesTold n named before (Ok ls) = (length ls ≡ n) × ValidFrom named before ls
-LinesTold n named before (Err e) = Known e
+-- What lines that are read tell: they are as many as were asked for, and each is valid after the one before it.
+pub record Counted (n : ℕ) (named : Option ℕ) (before : Option Line) (ls : List Line) : Type 0 where
+  pub counted : length ls ≡ n
+  pub valid : ValidFrom named before ls
 
-line_then : (P : Lines → Type 0) (named : Option ℕ) (before : Option Line) (s : List ℕ) (r : Read Line) (f : Line × ℕ → Lines)
-    → LineTold named before s r
-    → ((l : Line) (size : ℕ) → Taken named before s l size → P (f (l, size)))
-    → ((e : Refusal) → Known e → P (Err e))
-    → P (r >>= f)
-unfolding LineTold
-line_then P named before s (Ok (l, size)) f t h k = h l size t
-line_then P named before s (Err e) f t h k = k e t
-
-first_told : (n : ℕ) (named : Option ℕ) (before : Option Line) (l : Line) → ValidLine named before l → (r : Lines)
-    → LinesTold n named (Some l) r → LinesTold (suc n) named before (with_first l r)
-unfolding LinesTold ValidFrom
-first_told n named before l v (Ok ls) t = (ap suc t.0, (v, t.1))
-first_told n named before l v (Err e) t = t
-
-pub lines_told : (n : ℕ) (named : Option ℕ) (before : Option Line) (s : List ℕ) → LinesTold n named before (read_lines n named before s)
-unfolding LinesTold ValidFrom read_lines
-lines_told zero named before [] = (refl, tt)
+pub lines_told : (n : ℕ) (named : Option ℕ) (before : Option Line) (s : List ℕ)
+    → Told (Counted n named before) (read_lines n named before s)
+unfolding Told ValidFrom read_lines
+lines_told zero named before [] = record { counted = refl; valid = tt }
 lines_told zero named before (b ∷ s) = omega arith
 lines_told (suc n) named before s =
-    line_then (LinesTold (suc n) named before) named before s (read_line named before s) _
-    (line_told named before s)
-    (λ l size t.
-    first_told n named before l t.valid (read_lines n named (Some l) (drop size s))
-    (lines_told n named (Some l) (drop size s)))
-    (λ e k. k)
+    then_read (Taken named before s) (Counted (suc n) named before) (read_line named before s) _ (line_told named before s)
+    (λ l size e t.
+    then_told (Counted n named (Some l)) (Counted (suc n) named before) (read_lines n named (Some l) (drop size s)) _
+    (lines_told n named (Some l) (drop size s))
+    (λ ls f c. record { counted = ap suc c.counted; valid = (t.valid, c.valid) }))
 
-module _ (n : ℕ) (named : Option ℕ) (before : Option Line) (s : List ℕ) where
-  -- There are as many lines as were asked for.
-  pub lines_length : (ls : List Line) → read_lines n named before s ≡ Ok ls → length ls ≡ n
-  unfolding LinesTold
-  lines_length ls e = (subst (LinesTold n named before) e (lines_told n named before s)).0
-
-  -- Each of them is valid after the one before it.
-  pub lines_valid : (ls : List Line) → read_lines n named before s ≡ Ok ls → ValidFrom named before ls
-  unfolding LinesTold
-  lines_valid ls e = (subst (LinesTold n named before) e (lines_told n named before s)).1
+-- There are as many lines as were asked for.
+pub lines_length : (n : ℕ) (named : Option ℕ) (before : Option Line) (s : List ℕ) (ls : List Line)
+    → read_lines n named before s ≡ Ok ls → length ls ≡ n
+lines_length n named before s ls e = (tells (Counted n named before) (lines_told n named before s) e).counted

@@ -1,19 +1,17 @@
 -- What a notice that is read holds, and that one is refused only with 1 to 9. Assumes nothing.
-use mathlib.Core.Path.{◌≡◌, subst}
+use mathlib.Core.Path.{◌≡◌}
 use mathlib.Core.List.{List}
 use Prim.Native.Nat.{ℕ, ◌≤◌, ◌<◌}
 use native.Mathlib.Omega.{arith}
 use lib.ListN.{length, drop}
 use Rattle.notice_header.specs.HeaderRule.{kind_country, read_header}
-use Rattle.notice.specs.NoticeRule.{Lines, Notice, Reading, notice_of, lines_after, read_notice}
-use Rattle.notice_header.specs.declared.Header.{Header}
+use Rattle.notice.specs.NoticeRule.{Notice, lines_after, read_notice}
 use Rattle.notice_header.specs.declared.Kind.TheVariants.{Replacement}
-use Rattle.varint.proofs.Told.{Known}
-use Rattle.notice_header.proofs.HeaderLaws.{Leading, HeaderTold, header_told}
-use Rattle.notice.proofs.LinesLaws.{ValidFrom, LinesTold, lines_told}
+use Rattle.refusal.proofs.Told.{Known, Told, tells, refuses, then_told}
+use Rattle.notice_header.proofs.HeaderLaws.{Leading, header_told}
+use Rattle.notice.proofs.LinesLaws.{ValidFrom, Counted, lines_told}
 use Rattle.refusal.specs.declared.Refusal.{Refusal}
-use Rattle.refusal.specs.Steps.{◌>>=◌}
-use Rattle.std.proofs.Common.{None, Result, Ok, Err}
+use Rattle.std.proofs.Common.{None, Ok, Err}
 
 -- A valid notice: its leading fields are in range, a replacement's country is not 0, and each line is valid after the one before
 -- it.
@@ -24,36 +22,26 @@ pub record Valid (n : Notice) : Type 0 where
   pub few_lines : length n.lines ≤ 65535
   pub lines_valid : ValidFrom (kind_country n.kind) None n.lines
 
-unfoldable pub NoticeTold : Reading → Type 0
-NoticeTold (Ok n) = Valid n
-NoticeTold (Err e) = Known e
-
-pub notice_told : (s : List ℕ) → NoticeTold (read_notice s)
-unfolding NoticeTold read_notice HeaderTold LinesTold
-notice_told s = go (read_header s) (header_told s)
-  where
-    by_lines : (h : Header) → Leading s h → (r : Lines) → LinesTold h.lines (kind_country h.kind) None r
-        → NoticeTold (r >>= λ ls. Ok (notice_of h ls))
-    by_lines h p (Ok ls) t =
-        record {
-          received_most = p.received_most;
-          named = p.named;
-          some_lines = omega (arith, t.0, p.lines_least);
-          few_lines = omega (arith, t.0, p.lines_most);
-          lines_valid = t.1;
-        }
-    by_lines h p (Err e) t = t
-
-    go : (r : Result Header Refusal) → HeaderTold s r → NoticeTold (r >>= λ h. lines_after s h >>= λ ls. Ok (notice_of h ls))
-    go (Ok h) p = by_lines h p (lines_after s h) (lines_told h.lines (kind_country h.kind) None (drop h.start s))
-    go (Err e) k = k
+pub notice_told : (s : List ℕ) → Told Valid (read_notice s)
+unfolding Told read_notice
+notice_told s =
+    then_told (Leading s) Valid (read_header s) _ (header_told s)
+    (λ h e p.
+    then_told (Counted h.lines (kind_country h.kind) None) Valid (lines_after s h) _
+    (lines_told h.lines (kind_country h.kind) None (drop h.start s))
+    (λ ls f c.
+    record {
+      received_most = p.received_most;
+      named = p.named;
+      some_lines = omega (arith, c.counted, p.lines_least);
+      few_lines = omega (arith, c.counted, p.lines_most);
+      lines_valid = c.valid;
+    }))
 
 -- A notice that is read is valid.
 pub notice_valid : (s : List ℕ) (n : Notice) → read_notice s ≡ Ok n → Valid n
-unfolding NoticeTold
-notice_valid s n e = subst NoticeTold e (notice_told s)
+notice_valid s n e = tells Valid (notice_told s) e
 
 -- A notice is refused with one of 1 to 9.
 pub notice_refusals : (s : List ℕ) (e : Refusal) → read_notice s ≡ Err e → Known e
-unfolding NoticeTold
-notice_refusals s e p = subst NoticeTold p (notice_told s)
+notice_refusals s e p = refuses Valid (notice_told s) p

@@ -1,12 +1,17 @@
 // A whole price notice (document 01, "Notice layout"): the fields before the lines, the lines, and the end.
 #![tactic(auto)]
 
-ghost use Rattle.std.specs.Prelude.{◌≡◌};
+ghost use Rattle.std.specs.Prelude.{◌≡◌, List};
+ghost use Rattle.std.specs.Iterator.{YieldsFirst, item_count};
+ghost use Rattle.notice_line.specs.declared.Line.{Line};
+ghost use Rattle.notice.specs.Lines.{lines_at};
 ghost use Rattle.notice.specs.NoticeRule.{read_lines, scanned, check_notice};
 
 use calendar::Day;
 use notice_header::Header;
+use notice_line::Line;
 use refusal::Refusal;
+use std::marker::Model;
 
 // What later passes need of a checked notice: the fields before its lines, and the earliest listed day, where a line that lists
 // none counts as listing day 0.
@@ -24,6 +29,7 @@ fn scan_lines(named: Option<u64>, count: u64, lines: &[u8]) -> Result<u64, Refus
     let mut rest = lines;
     let mut before = None;
     let mut earliest = Day::LAST.0;
+    // Document 01 names this form: the part from the next line's first byte on is handed to the line reader.
     for _ in 0..count {
         let (line, size) = notice_line::read_line(named, before, rest)?;
         rest = &rest[size..];
@@ -44,4 +50,47 @@ pub fn check_notice(notice: &[u8]) -> Result<Summary, Refusal>
     let header = notice_header::leading_fields(notice)?;
     let earliest = scan_lines(header.kind.country(), header.lines, &notice[header.start..])?;
     Ok(Summary { header, earliest })
+}
+
+// The lines of a checked notice that a walk over them has left, the next first, each read by itself.
+#[derive(Drop)]
+pub struct Lines<'a> {
+    notice: &'a [u8],
+    at: usize,
+    left: u64,
+}
+
+impl<'a> Model for Lines<'a> {
+    ghost Value = { List Line };
+
+    ghost view = { λ lines. lines_at lines.left lines.notice.now lines.at };
+}
+
+impl<'a> Lines<'a> {
+    // Those from a place on: so many, or those before the first that does not read.
+    pub fn of(notice: &'a [u8], start: usize, lines: u64) -> Self
+        ensures { result ≡ lines_at lines notice.now start }
+    {
+        Lines {
+            notice,
+            at: start,
+            left: lines,
+        }
+    }
+}
+
+impl<'a> Iterator for Lines<'a> {
+    type Item = Line;
+
+    ghost next_gives = { YieldsFirst (λ lines. lines) };
+
+    ghost remaining = { item_count (λ lines. lines) };
+
+    #[tactic(auto, unfolding(crate::specs::Lines::lines_at))]
+    fn next(&mut self) -> Option<Line> {
+        self.left = self.left.checked_sub(1)?;
+        let (line, end) = notice_line::line_at(self.notice, self.at).ok()?;
+        self.at = end;
+        Some(line)
+    }
 }

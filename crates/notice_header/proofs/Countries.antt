@@ -1,9 +1,13 @@
 -- The value field of a replacement's country: by the key of the code that it is, and worth more than 0. Assumes nothing.
-use Rattle.std.proofs.Common.{◌≡◌, refl, Bool, true, false, cond, ◌&&◌, eqb, ltb, lit<, List, [], ◌∷◌, ℕ, ◌^◌, ◌≤◌, ◌<◌, length, take, Ok, Err, inl, inr, arith}
+use Rattle.std.proofs.Common.{◌≡◌, refl, Bool, true, false, cond, ◌&&◌, eqb, leb, ltb, lit<, List, [], ◌∷◌, ℕ, ◌^◌, ◌≤◌, ◌<◌, length, take, Ok, Err, inl, inr, arith}
 use Rattle.std.proofs.lemmas.Bool.{cases_lt}
 use Rattle.std.proofs.lemmas.Bool.Decides.{nat_tests}
 use Rattle.std.proofs.Math.Nat.{pow-le-pow_right, mul-le-mul_right, one-le-pow}
 use Rattle.std.proofs.Math.Seq.{take_all, length-take-le}
+use Rattle.varint.specs.Reading.{read_number}
+use Rattle.varint.specs.Ranged.{in_range, read_ranged}
+use Rattle.varint.proofs.Ranges.{both_sides}
+use Rattle.varint.proofs.Links.{either}
 use Rattle.dial_code.specs.Digits.{digits, value, is_number}
 use Rattle.dial_code.specs.Key.{key}
 use Rattle.country_code.specs.CountryCode.{country_digits, country, country_of_key}
@@ -12,10 +16,10 @@ use Rattle.dial_code.proofs.DigitLaws.{digits_take, value_digits, value_below, n
 use Rattle.allowed_code.proofs.CodeLaws.{country_test}
 use Rattle.country_code.proofs.CountryLaws.{country_opens}
 use Rattle.line_code.specs.CodeRule.{is_country}
-use Rattle.notice_header.specs.HeaderRule.{is_country_code, country_field}
+use Rattle.notice_header.specs.HeaderRule.{is_country_code, country_field, read_country}
 use Rattle.line_code.proofs.Codes.{sent_in_range, same_country}
 use Rattle.refusal.specs.declared.Refusal.TheVariants.{CodeNotAllowed, OutOfRange}
-use Rattle.refusal.specs.Steps.{◌>>=◌, ok_at}
+use Rattle.refusal.specs.Steps.{◌>>=◌, Read, ok_at}
 
 -- An allowed code is a number, and as long as its country code.
 pub code_facts : (ds : List ℕ) → is_code ds ≡ true → (is_number ds ≡ true) × (country_digits ds ≤ length ds)
@@ -66,7 +70,7 @@ country_some count v h e =
     let c : is_code ds ≡ true = grind arith in
     rw (value_digits count v h) at (value_some ds (code_facts ds c).0)
 
--- The rule by the steps of the code.
+-- The value by the key of its code.
 pub country_steps : (count v : ℕ) → 1 ≤ count → count ≤ 15 → (at : ℕ)
     → country_field count v at
     ≡ (sent_code_key count v >>= λ k. cond (is_country (country_of_key k) v) (ok_at v at) (Err CodeNotAllowed))
@@ -86,3 +90,33 @@ country_steps count v h l at = rw (sent_in_range count v h l, test_opens ds) (go
         rw (same_country count v h l, agrees)
     go true w false c = refl
     go false w u c = refl
+
+-- The rule by the steps of the code.
+pub read_steps : (s : List ℕ) (at : ℕ)
+    → read_country s at
+    ≡ (in_range (read_number s at) 1 15 >>= λ (n : ℕ × ℕ). read_number s n.1 >>= λ (v : ℕ × ℕ). sent_code_key n.0 v.0
+    >>= λ k. cond (is_country (country_of_key k) v.0) (ok_at v.0 v.1) (Err CodeNotAllowed))
+unfolding read_country read_ranged
+read_steps s at = by_count (read_number s at)
+  where
+    ruled : ℕ × ℕ → Read ℕ
+    ruled n = read_number s n.1 >>= λ (v : ℕ × ℕ). country_field n.0 v.0 v.1
+
+    keyed : ℕ → ℕ × ℕ → Read ℕ
+    keyed count v = sent_code_key count v.0 >>= λ k. cond (is_country (country_of_key k) v.0) (ok_at v.0 v.1) (Err CodeNotAllowed)
+
+    read_keyed : ℕ × ℕ → Read ℕ
+    read_keyed n = read_number s n.1 >>= keyed n.0
+
+    by_value : (count : ℕ) → (1 ≤ count) × (count ≤ 15) → (value : Read ℕ)
+        → (value >>= λ (v : ℕ × ℕ). country_field count v.0 v.1) ≡ (value >>= keyed count)
+    by_value count h (Ok (v, end)) = country_steps count v h.0 h.1 end
+    by_value count h (Err e) = refl
+
+    Same : Read ℕ → Type 0
+    Same count = (count >>= ruled) ≡ (count >>= read_keyed)
+
+    by_count : (count : Read ℕ) → Same (in_range count 1 15)
+    by_count (Ok (n, z)) =
+        either Same (leb 1 n && leb n 15) _ _ (λ t. by_value n (both_sides 1 15 n t) (read_number s z)) (λ t. refl)
+    by_count (Err e) = refl

@@ -1,4 +1,3 @@
 -- The laws of the fields before the lines.
 pub mod Countries
 pub mod HeaderLaws
-pub mod LeadingLaws

@@ -1,3 +1,3 @@
--- The rules of the fields before the lines. No public contract cites Leading, the header from numbers that a reader gave.
+-- The rules of the fields before the lines. No public contract cites Placed, what a reader gave with its place.
 pub mod HeaderRule
-pub mod Leading
+pub mod Placed

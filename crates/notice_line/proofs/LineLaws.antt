@@ -1,6 +1,6 @@
 -- What a line that is read tells: where it ends, that it reads the same by itself, and what its fields hold.
 -- Assumes nothing.
-use mathlib.Core.Path.{◌≡◌, ◌∙◌, refl, subst}
+use mathlib.Core.Path.{◌≡◌, ◌∙◌, refl}
 use mathlib.Core.Bool.{Bool, true, false, cond}
 use mathlib.Core.List.{List}
 use Prim.Native.Nat.{ℕ, ◌≤◌, ◌<◌}
@@ -13,17 +13,16 @@ use Rattle.varint.specs.Ranged.{in_range as ranged, read_ranged}
 use Rattle.country_code.specs.CountryCode.{country_of_key}
 use Rattle.allowed_code.specs.Code.{is_code_key}
 use Rattle.rate.specs.OfferWord.{in_range}
-use Rattle.rate.specs.declared.Offer.{Offer}
 use Rattle.line_terms.specs.TermsRule.{read_terms}
 use Rattle.line_code.specs.CodeRule.{read_code}
 use Rattle.notice_line.specs.LineRule.{days_agree, listed_field, read_listed, key_before, read_line, line_at}
 use Rattle.notice_line.specs.declared.Line.{Line}
 use Rattle.varint.proofs.Links.{either, on_value, yes_case}
-use Rattle.varint.proofs.Told.{Known, Told, then_told, Spans, number_told}
-use Rattle.line_terms.proofs.TermsLaws.{TermsTold, terms_told}
+use Rattle.refusal.proofs.Told.{Told, ReadTold, tells, then_read}
+use Rattle.varint.proofs.Told.{Spans, number_told}
+use Rattle.line_terms.proofs.TermsLaws.{Terms, terms_told}
 use Rattle.line_code.proofs.CodeTold.{Coded, code_told}
 use Rattle.refusal.specs.Steps.{◌>>=◌, Read, ok_at}
-use Rattle.refusal.specs.declared.Refusal.{Refusal}
 use Rattle.refusal.specs.declared.Refusal.TheVariants.{BytesEnd, DaysDiffer, OutOfRange}
 use Rattle.std.proofs.Common.{Option, Some, None, Ok, Err}
 
@@ -54,10 +53,10 @@ pub record Listed (named : Option ℕ) (before : Option Line) (s : List ℕ) (at
   pub alone : read_listed None None s at ≡ ok_at n end
 
 pub listed_told : (named : Option ℕ) (before : Option Line) (s : List ℕ) (at : ℕ)
-    → Told (Listed named before s at) (read_listed named before s at)
+    → ReadTold (Listed named before s at) (read_listed named before s at)
 unfolding Told read_listed listed_field
 listed_told named before s at =
-    then_told (Spans s at) F (read_number s at) _ (number_told s at)
+    then_read (Spans s at) P (read_number s at) _ (number_told s at)
     (λ n end e p.
     either F (leb n 65001) _ _
     (λ t.
@@ -72,10 +71,12 @@ listed_told named before s at =
     })
     (λ u. omega arith))
     (λ t. omega arith))
-    (λ n k. k)
   where
+    P : ℕ × ℕ → Type 0
+    P r = Listed named before s at r.0 r.1
+
     F : Read ℕ → Type 0
-    F = Told (Listed named before s at)
+    F = Told P
 
 -- A valid line: an allowed code's key above the line before's, an offer that a book can hold, a last field in range; and in a
 -- replacement a code of the named country and the last field of the line before.
@@ -94,53 +95,38 @@ pub record Taken (named : Option ℕ) (before : Option Line) (s : List ℕ) (l :
   pub valid : ValidLine named before l
   pub alone : read_line None None s ≡ ok_at l size
 
-unfoldable pub LineTold : Option ℕ → Option Line → List ℕ → Read Line → Type 0
-LineTold named before s (Ok (l, size)) = Taken named before s l size
-LineTold named before s (Err e) = Known e
-
-terms_then : (P : Read Line → Type 0) (s : List ℕ) (at : ℕ) (r : Read Offer) (f : Offer × ℕ → Read Line) → TermsTold s at r
-    → ((o : Offer) (end : ℕ) → r ≡ ok_at o end → (at < end) × (end ≤ length s) × (in_range o ≡ true) → P (f (o, end)))
-    → ((e : Refusal) → Known e → P (Err e)) → P (r >>= f)
-unfolding TermsTold
-terms_then P s at (Ok (o, end)) f t h k = h o end refl t
-terms_then P s at (Err e) f t h k = k e t
-
-pub line_told : (named : Option ℕ) (before : Option Line) (s : List ℕ) → LineTold named before s (read_line named before s)
-unfolding LineTold read_line
+pub line_told : (named : Option ℕ) (before : Option Line) (s : List ℕ) → ReadTold (Taken named before s) (read_line named before s)
+unfolding Told read_line
 line_told named before s =
-    then_told (Coded named b s 0) P (read_code named b s 0) _ (code_told named b s 0)
+    then_read (Coded named b s 0) P (read_code named b s 0) _ (code_told named b s 0)
     (λ k mid e p.
-    terms_then P s mid (read_terms s mid) _ (terms_told s mid)
+    then_read (Terms s mid) P (read_terms s mid) _ (terms_told s mid)
     (λ o fin f q.
-    then_told (Listed named before s fin) P (read_listed named before s fin) _ (listed_told named before s fin)
+    then_read (Listed named before s fin) P (read_listed named before s fin) _ (listed_told named before s fin)
     (λ n end g r.
     record {
-      moves = omega (arith, p.moves, q.0, r.moves);
+      moves = omega (arith, p.moves, q.moves, r.moves);
       stays = r.stays;
       valid = record {
         allowed = p.allowed;
-        is_in_range = q.2;
+        is_in_range = q.holds;
         few = r.few;
         rises = p.rises;
         inside = p.inside;
         agrees = r.agrees;
       };
       alone = on_value _ p.alone ∙ on_value _ f ∙ on_value _ r.alone;
-    })
-    (λ n h. h))
-    (λ n h. h))
-    (λ n h. h)
+    })))
   where
     b : ℕ
     b = key_before before
 
-    P : Read Line → Type 0
-    P = LineTold named before s
+    P : Line × ℕ → Type 0
+    P r = Taken named before s r.0 r.1
 
 module _ (named : Option ℕ) (before : Option Line) (s : List ℕ) where
   taken : (l : Line) (size : ℕ) → read_line named before s ≡ ok_at l size → Taken named before s l size
-  unfolding LineTold
-  taken l size e = subst (LineTold named before s) e (line_told named before s)
+  taken l size e = tells (λ (r : Line × ℕ). Taken named before s r.0 r.1) (line_told named before s) e
 
   -- A line takes some bytes, and stays within them.
   pub line_spans : (l : Line) (size : ℕ) → read_line named before s ≡ ok_at l size → (0 < size) × (size ≤ length s)

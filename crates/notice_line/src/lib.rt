@@ -39,7 +39,7 @@ fn read_listed(named: Option<u64>, before: Option<Line>, s: &[u8], at: usize) ->
 }
 
 // The line at the front of a part of a notice, with how many bytes it takes. A replacement names the country of its lines;
-// `before` is the line before.
+// `before` is the line before. They stay two: a notice names one country, and each line has another before it.
 #[tactic(auto, unfolding(crate::specs::LineRule::read_line))]
 pub fn read_line(named: Option<u64>, before: Option<Line>, s: &[u8]) -> Read<Line>
     ensures { result ≡ read_line named before s.now }

@@ -33,14 +33,10 @@ nearest m d h =
     let q : ℕ = 10 ^ (d - 8) in
     rw (rounded m d h) (mul-div-le (m + q / 2) q, omega (arith, lt-div-mul-add {a = m + q / 2} (power_some (d - 8))))
 
--- Numbers in range are open up to the dearest rate, and a block above it.
+-- Numbers in range are open up to the dearest rate.
 pub open_to_dearest : (m d : ℕ) → d ≤ most_decimals → m ≤ most_mantissa → scaled m d ≤ dearest → price_of m d ≡ Some (Open (rate (scaled m d)))
 unfolding price_of
 open_to_dearest m d a b h = simp (le-leb _ _ a, le-leb _ _ b, le-leb _ _ h)
-
-pub block_above : (m d : ℕ) → d ≤ most_decimals → m ≤ most_mantissa → dearest < scaled m d → price_of m d ≡ Some Block
-unfolding price_of
-block_above m d a b h = simp (le-leb _ _ a, le-leb _ _ b, lt-leb _ _ h)
 
 -- An open price is the scaled mantissa, and at most the dearest rate.
 pub open_price : (m d : ℕ) (r : Rate) → price_of m d ≡ Some (Open r) → (r.0 ≡ scaled m d) × (r.0 ≤ dearest)

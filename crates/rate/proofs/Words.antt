@@ -54,21 +54,12 @@ open_at x = Open (rate (x / 65536)) (x / 256 % 256) (x % 256)
 abbrev pub PartsAt : ℕ → Type 0
 PartsAt x = Parts (x / 65536) (x / 256 % 256) (x % 256)
 
--- A word from 2 up whose parts are in range stands for that open offer; one whose parts are not is no offer word.
+-- A word from 2 up whose parts are in range stands for that open offer.
 pub opens : (w : ℕ) → 2 ≤ w → PartsAt (w - 2) → offer_of w ≡ Some (open_at (w - 2))
 unfolding offer_of
 opens w h p =
     simp (ne_eqb w 0 (λ e. omega arith), ne_eqb w 1 (λ e. omega arith))
     (ap (λ (t : Bool). cond t (Some (open_at (w - 2))) None) ((parts _ _ _).1 p))
-
-pub no_word : (w : ℕ) → 2 ≤ w → (PartsAt (w - 2) → ⊥) → offer_of w ≡ None
-unfolding offer_of
-no_word w h f =
-    simp (ne_eqb w 0 (λ e. omega arith), ne_eqb w 1 (λ e. omega arith)) (go (in_range (open_at (w - 2))) refl)
-  where
-    go : (t : Bool) → in_range (open_at (w - 2)) ≡ t → cond t (Some (open_at (w - 2))) None ≡ None
-    go true e = absurd (f ((parts _ _ _).0 e))
-    go false e = refl
 
 -- The word of an offer in range reads back.
 pub reads_back : (o : Offer) → in_range o ≡ true → offer_of (word_of o) ≡ Some o

@@ -31,7 +31,7 @@ pub extern "C" fn rate_book_words(entries: u64) -> u64
     header + entries.min(book_words::MOST_ENTRIES as u64) * each
 }
 
-// A fresh book with a notice period, in every word of the lent slice: 22, 20.
+// A fresh book with a notice period, in every word of the lent slice: 22, 20. In C the answer is the refusal's number, or 0.
 #[unsafe(no_mangle)]
 pub extern "C" fn rate_book_fresh(book: &mut [u64], period: u64) -> u64
     ensures value { result ≡ number_or_zero (fresh_answer (length book.old) period) }
@@ -111,6 +111,7 @@ pub extern "C" fn rate_book_cell_entry(
     ensures value { result ≡ entry_answer_of (entry_keys country.now cell.now (length keys.old)) cell.now }
     ensures after { keys.new ≡ sets keys.old 0 (keys_of (entry_keys country.now cell.now (length keys.old))) }
 {
+    // Made here and not by a `From`, since it takes the cell to tell where the rest begins.
     match cell_keys::entry_keys(country, cell, keys) {
         Ok((count, rest)) => RateBookCellEntry {
             refusal: 0,
@@ -118,9 +119,8 @@ pub extern "C" fn rate_book_cell_entry(
             rest: (cell.len() - rest.len()) as u64,
         },
         Err(e) => RateBookCellEntry {
-            refusal: e.number(),
-            count: 0,
-            rest: 0,
+            refusal: u64::from(e),
+            ..RateBookCellEntry::default()
         },
     }
 }

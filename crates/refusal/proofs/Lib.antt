@@ -1,2 +1,3 @@
 -- Laws of readings.
 pub mod ReadParts
+pub mod Told

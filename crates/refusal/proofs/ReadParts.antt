@@ -1,5 +1,5 @@
 -- Laws of readings. Assumes nothing.
-use Rattle.std.proofs.Common.{◌≡◌, ℕ, Result, Ok, Err, ap}
+use Rattle.std.proofs.Common.{◌≡◌, ℕ, Ok, Err, ap}
 use Rattle.refusal.specs.Steps.{Read, ok_at}
 use Rattle.refusal.specs.declared.Refusal.{Refusal}
 

@@ -2,7 +2,6 @@
 use Rattle.std.specs.Prelude.{ℕ}
 use Rattle.refusal.specs.declared.Refusal.{Refusal}
 use Rattle.refusal.specs.declared.Refusal.TheVariants.{BytesEnd, NotShortest, UnknownKind, OutOfRange, CodeNotAllowed, KeysNotRising, OutsideCountry, DaysDiffer, BytesLeft, ReceivedEarlier, BookTooShort, BookNotSound, PeriodTooLong, BufferTooShort, BookFull, NotANumber, TimeOutOfRange, DurationTooLong, NoOffer, OfferBlocked, EntryNotAllowed, RangeNotAllowed, KeysTooMany}
-use Rattle.refusal.specs.declared.Refusal.{Refusal}
 
 abbrev pub number_of : Refusal → ℕ
 number_of BytesEnd = 1

@@ -63,11 +63,11 @@ pub enum Refusal {
 // What reading at a place comes to: what was read with the place after it, or a refusal.
 pub type Read<T> = Result<(T, usize), Refusal>;
 
-impl Refusal {
-    // The number of a refusal.
-    pub fn number(self) -> u64
-        ensures { result ≡ number_of self }
-    {
-        self as u64
+// The number of a refusal.
+impl From<Refusal> for u64 {
+    ghost from_gives = { λ e number. number ≡ number_of e };
+
+    fn from(e: Refusal) -> u64 {
+        e as u64
     }
 }

@@ -3,13 +3,14 @@ use mathlib.Core.Path.{◌≡◌, ap, ◌∙◌}
 use mathlib.Core.List.{List, [], ◌∷◌, ◌++◌, append_assoc}
 use Prim.Native.Nat.{ℕ, suc, ◌+◌, ◌-◌, ◌≤◌}
 use native.Mathlib.Omega.{arith}
-use lib.ListN.{length, set, drop, take, length-drop}
-use lib.Seq.{take_all, sets, sets-eq, drop-drop}
+use lib.ListN.{length, set, drop, take}
+use lib.Seq.{sets, sets-eq, drop-drop}
+use Rattle.std.proofs.lemmas.List.{take_rest}
 use borrow.Rule.Slice.PartMut.{put_mid}
 
 -- The rest of a slice.
 pub rest : (s : List ℕ) (at : ℕ) → take (length s - at) (drop at s) ≡ drop at s
-rest s at = take_all (length s - at) (drop at s) (omega (arith, length-drop at s))
+rest s at = take_rest s at
 
 -- Stores one after the other.
 pub sets_append : (l : List ℕ) (i : ℕ) (xs ys : List ℕ) → sets (sets l i xs) (i + length xs) ys ≡ sets l i (xs ++ ys)

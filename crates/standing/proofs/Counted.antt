@@ -1,22 +1,17 @@
 -- The entries that a sound header counts, and the lines that they add: few, of few bytes, and each with a size. Assumes nothing.
-use Rattle.std.proofs.Common.{◌≡◌, ℕ, ◌+◌, ◌-◌, ◌*◌, ◌/◌, ◌≤◌, min, Bool, true, false, cond, List, [], ◌∷◌, ◌++◌, length, Some, ap, sym, ◌∙◌, arith, length-append}
+use Rattle.std.proofs.Common.{◌≡◌, ℕ, ◌+◌, ◌*◌, ◌≤◌, Bool, true, false, cond, List, [], ◌∷◌, ◌++◌, length, Some, ap, sym, ◌∙◌, arith, length-append}
 use Rattle.varint_encoding.specs.Several.{encode_all, encodable_all, sizes_if_encodable}
 use Rattle.varint_encoding.proofs.Several.{all_sizes}
 use Rattle.line_writing.specs.LineLayout.{line_fields, encode_line, encode_lines}
 use Rattle.line_writing.proofs.LineLayoutLaws.{line_bytes, lines_cons}
 use Rattle.notice_line.specs.declared.Line.{Line}
-use Rattle.book_words.specs.Layout.{header_words, entry_words, most_entries, entries_from}
+use Rattle.book_words.specs.Layout.{header_words, most_entries, entries_from}
 use Rattle.book_words.specs.declared.Entry.{Entry}
 use Rattle.book_words.proofs.Rows.{length_rows}
 use Rattle.book.specs.Soundness.{headed_count}
 use Rattle.book.proofs.Headers.{count_room}
 use Rattle.standing.specs.Pass.{stands, entry_line, added_by, passed, lines_by}
 use Rattle.standing.proofs.Sizes.{most_line, entry_encodable, passed_few}
-
--- There are words for all of them.
-pub all_counted : (ws : List ℕ)
-    → entries_from ws header_words (min (headed_count ws) ((length ws - header_words) / entry_words)) ≡ entries_from ws header_words (headed_count ws)
-all_counted ws = ap (entries_from ws header_words) (omega (arith, count_room ws))
 
 -- Their lines are few and of few bytes.
 module _ (ws : List ℕ) (day : ℕ) where

@@ -10,27 +10,17 @@ use Rattle.varint_encoding.specs.Several.{encode_all, encodable_all}
 use Rattle.varint_encoding.proofs.Laws.{size_below}
 use Rattle.varint_encoding.proofs.Several.{all_nil, bytes_nil, length_bytes_cons}
 use Rattle.dial_code.specs.Key.{code_of}
-use Rattle.rate.specs.OfferWord.{offer_of, in_range}
+use Rattle.rate.specs.OfferWord.{in_range}
 use Rattle.rate.specs.declared.Offer.{Offer}
 use Rattle.rate.specs.declared.Offer.TheVariants.{Closed, Blocked, Open}
-use Rattle.rate.proofs.Words.{only_word, parts}
+use Rattle.rate.proofs.Words.{parts}
 use Rattle.line_writing.specs.LineLayout.{offer_fields, line_fields, encode_line, encode_lines}
 use Rattle.notice_line.specs.declared.Line.{Line}
 use Rattle.line_writing.proofs.LineLayoutLaws.{line_opens, line_bytes, lines_nil, lines_cons, lines_append}
 use Rattle.line_writing.proofs.Encodable.{code_fits, one_more, terms_encodable}
-use Rattle.book.specs.Status.{held_offer}
+use Rattle.book.proofs.Statuses.{held_in_range}
 use Rattle.book_words.specs.declared.Entry.{Entry}
 use Rattle.standing.specs.Pass.{stands, offer_at, entry_line, added_by, passed}
-use Rattle.std.proofs.Common.{Option, Some, None}
-
--- What any word stands for is in range.
-pub offer_in_range : (w : ℕ) → in_range (offer_at w) ≡ true
-unfolding in_range
-offer_in_range w = go (offer_of w) refl
-  where
-    go : (r : Option Offer) → offer_of w ≡ r → in_range (held_offer r) ≡ true
-    go (Some o) e = (only_word w o e).1
-    go None e = refl
 
 -- No numbers take no bytes, and one number more, below 128 to the power k, takes at most k bytes more.
 pub none_few : length (encode_all []) ≤ 0
@@ -72,7 +62,7 @@ module _ (e : Entry) where
       ap encodable_all line_is
       ∙ one_more _ _ (omega arith)
       (one_more _ _ (omega arith)
-      (terms_encodable (offer_at e.offer) (0 ∷ []) (offer_in_range e.offer) (one_more 0 [] (omega arith) all_nil)))
+      (terms_encodable (offer_at e.offer) (0 ∷ []) (held_in_range e.offer) (one_more 0 [] (omega arith) all_nil)))
 
   entry_few : length (encode_line (entry_line e)) ≤ most_line
   entry_few =
@@ -82,7 +72,7 @@ module _ (e : Entry) where
         ap length (line_bytes (entry_line e) ∙ ap encode_all line_is),
         one_few 1 (code_of e.key).count _ (omega arith) (omega arith)
             (one_few 8 (code_of e.key).value _ (omega arith) (omega arith)
-            (terms_few (offer_at e.offer) (offer_in_range e.offer))),
+            (terms_few (offer_at e.offer) (held_in_range e.offer))),
       )
 
 -- the bytes of one line

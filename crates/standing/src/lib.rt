@@ -13,7 +13,8 @@ use notice_line::Line;
 use rate::Offer;
 use std::marker::Model;
 
-// Whether an entry is its code's status on a day, and that is not closed; `after` are the entries after it.
+// Whether an entry is its code's status on a day, and that is not closed; `after` are the entries after it. Closed is the word 0: it
+// is a word of a book, which may be any.
 #[tactic(auto, unfolding(crate::specs::Pass::stands, crate::specs::Pass::is_replaced))]
 pub fn is_standing(e: Entry, after: &Entries, day: u64) -> bool
     ensures { result ≡ stands e after.now day }
@@ -53,12 +54,12 @@ impl<'a> Model for Lines<'a> {
 
 impl<'a> Lines<'a> {
     // Those of a book's words. No key is taken apart.
-    #[tactic(auto, using(crate::proofs::Counted::all_counted), unfolding(crate::specs::Pass::lines_by))]
+    #[tactic(auto, unfolding(crate::specs::Pass::lines_by))]
     pub fn of(words: &'a [u64], day: u64) -> Self
         ensures { result ≡ lines_by words.now day }
     {
         Lines {
-            rest: Entries::of(words, book::headed_count(words)),
+            rest: book::entries(words),
             day,
         }
     }
@@ -73,6 +74,7 @@ impl<'a> Iterator for Lines<'a> {
 
     #[tactic(auto, unfolding(crate::specs::Pass::passed, crate::specs::Pass::added_by))]
     fn next(&mut self) -> Option<Line> {
+        // Not a `for`: the entries after one tell whether it stands.
         while let Some(e) = self.rest.next() {
             if is_standing(e, &self.rest, self.day) {
                 return Some(line_of(e));

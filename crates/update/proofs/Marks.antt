@@ -3,7 +3,7 @@
 use mathlib.Core.Path.{◌≡◌, refl, ap, ap₂, sym, ◌∙◌}
 use mathlib.Core.Bool.{Bool, true, false, cond, ◌||◌, or-false}
 use mathlib.Core.List.{List, [], ◌∷◌}
-use Prim.Native.Nat.{ℕ, ◌+◌, ◌*◌, ◌≤◌, ◌<◌}
+use Prim.Native.Nat.{ℕ, ◌≤◌, ◌<◌}
 use native.Mathlib.Omega.{arith}
 use borrow.Author.Tests.{lt-ltb, eq-eqb, eqb-true, eqb-false}
 use native.Mathlib.Nat.{pow-le-pow_right, lt_of_lt_of_le}
@@ -12,8 +12,9 @@ use lib.ListN.{length, get_or, set, take, length-take, length-replicate, get_or-
 use lib.Seq.{get_or-set_same, get_or-set_other}
 use Rattle.dial_code.specs.Digits.{every, is_digit, value}
 use Rattle.dial_code.specs.Key.{digits_of_key}
-use Rattle.country_code.specs.CountryCode.{one_digit, two_digits, country_digits, country, country_of_key}
+use Rattle.country_code.specs.CountryCode.{country_digits, country, country_of_key}
 use Rattle.dial_code.proofs.DigitLaws.{digits_take, value_below}
+use Rattle.country_code.proofs.CountryLaws.{country_most}
 use Rattle.longest_match.proofs.Matching.{word_digits}
 use Rattle.notice.specs.NoticeRule.{Notice}
 use Rattle.notice_header.specs.declared.Kind.{Kind}
@@ -82,22 +83,6 @@ none_named k (y ∷ ls) e = ap₂ ◌||◌ (ap (same_country (country_of_key y.k
     no_country (Some c) = refl
     no_country None = refl
 
--- A country code has at most three digits.
-few_digits : (ds : List ℕ) → country_digits ds ≤ 3
-unfolding country_digits
-few_digits [] = omega arith
-few_digits (a ∷ []) = go (one_digit a)
-  where
-    go : (t : Bool) → cond t 1 3 ≤ 3
-    go true = omega arith
-    go false = omega arith
-few_digits (a ∷ b ∷ ds) = go (one_digit a) (two_digits (a * 10 + b))
-  where
-    go : (t u : Bool) → cond t 1 (cond u 2 3) ≤ 3
-    go true u = omega arith
-    go false true = omega arith
-    go false false = omega arith
-
 country_few : (ds : List ℕ) (c : ℕ) → every is_digit ds ≡ true → country ds ≡ Some c → c < 1000
 unfolding country
 country_few ds c e q = go (leb (country_digits ds) (length ds)) q
@@ -106,7 +91,7 @@ country_few ds c e q = go (leb (country_digits ds) (length ds)) q
     first = take (country_digits ds) ds
 
     short : length first ≤ 3
-    short = rw (length-take (country_digits ds) ds) (omega (arith, few_digits ds))
+    short = rw (length-take (country_digits ds) ds) (omega (arith, country_most ds))
 
     small : value first < 1000
     small = lt_of_lt_of_le (value_below first (digits_take (country_digits ds) ds e)) (pow-le-pow_right (lit< tt) {i = length first} {j = 3} short)

@@ -6,21 +6,22 @@ ghost use Rattle.std.specs.Prelude.{◌≡◌, true, Ok, ◌+◌, ◌*◌, ◌�
 ghost use Rattle.calendar.specs.Time.{last_received_day};
 ghost use Rattle.notice_header.specs.HeaderRule.{most_lines};
 ghost use Rattle.notice.specs.NoticeRule.{check_notice};
-ghost use Rattle.book_words.specs.Layout.{header_words, entry_words, most_period, held, book_of, period_of, latest_of};
+ghost use Rattle.book_words.specs.Layout.{header_words, entry_words, most_period, held, book_of, period_of, put_entries};
 ghost use Rattle.book.specs.Soundness.{sound};
 ghost use Rattle.history.specs.Applying.{apply_answer, applied};
-ghost use Rattle.effect.specs.Lines.{found_in, latest_by};
 ghost use Rattle.notice.specs.Lines.{lines_at};
-ghost use Rattle.merge.specs.Merge.{merged_by};
 ghost use Rattle.update.specs.Plans.{plan_of};
+ghost use Rattle.update.specs.NewBooks.{Contents, contents};
 
 use book_words::Header;
+use closing::Closings;
 use effect::Plan;
 use history::Applied;
 use merge::Merged;
 use notice::Summary;
 use notice_header::Kind;
 use refusal::Refusal;
+use std::marker::Model;
 
 // Applies a notice to an old book and writes the new one: 20 and 21 for the old book, 20 for the new, the notice's own refusals,
 // 10, 30. A refused apply changes no word.
@@ -38,9 +39,9 @@ pub fn apply(old: &[u64], notice: &[u8], new: &mut [u64]) -> Result<Applied, Ref
 }
 
 // Applies a notice that has been checked. Nothing is written until nothing can be refused.
-fn apply_checked(
-    old: &[u64],
-    notice: &[u8],
+fn apply_checked<'a>(
+    old: &'a [u64],
+    notice: &'a [u8],
     m: Summary,
     new: &mut [u64],
 ) -> Result<Applied, Refusal>
@@ -52,12 +53,22 @@ fn apply_checked(
     if m.header.received < header.received {
         return Err(Refusal::ReceivedEarlier);
     }
-    let plan = plan_of(m, header.period, header.latest);
-    let marks = country_marks::marks_for(notice, m.header);
-    if !has_room(old, notice, m, plan, &marks, new.len()) {
+    let mut marks = [0; 1000];
+    country_marks::mark_countries(notice, m.header, &mut marks);
+    let closings = Closings {
+        plan: plan_of(m, header.period, header.latest),
+        marks: &marks,
+    };
+    let book = NewBook {
+        before: old,
+        notice,
+        header: m.header,
+        closings,
+    };
+    if !book.has_room(new.len()) {
         return Err(Refusal::BookFull);
     }
-    let done = fill(old, notice, m, plan, &marks, new);
+    let done = book.fill(new);
     Ok(Applied {
         entries: done.count as u64,
         received: m.header.received,
@@ -83,70 +94,71 @@ fn plan_of(m: Summary, period: u64, latest: u64) -> Plan
     }
 }
 
-// Whether a new book of so many words can hold the merged entries. They are at most two for each old entry and one for each line,
-// and are counted only where there might be no room for so many: merged into one word, where no entry has room.
-fn has_room(
-    old: &[u64],
-    notice: &[u8],
-    m: Summary,
-    plan: Plan,
-    marks: &[u8; 1000],
-    len: usize,
-) -> bool
-    requires { m.header.lines ≤ most_lines }
-    ensures { result ≡ leb (length (merged_by old.now plan marks.now (lines_at m.header.lines notice.now m.header.start))) (held len) }
-{
-    let most = book_words::entries_held(len);
-    if (book::headed_count(old) as u64) * 2 + m.header.lines <= most as u64 {
-        return true;
-    }
-    let mut none = [0u64; 1];
-    let counted = merge::merge(
-        old,
-        notice,
-        m.header.start,
-        m.header.lines,
-        plan,
-        marks,
-        &mut none[..],
-    );
-    counted.count <= most
+// The book after a checked notice: the one before it, merged with the lines of the notice.
+#[derive(Drop)]
+struct NewBook<'a, 'm> {
+    before: &'a [u64],
+    notice: &'a [u8],
+    header: notice_header::Header,
+    closings: Closings<'m>,
 }
 
-// Writes the new book: entries, zeros, header.
-fn fill(
-    old: &[u64],
-    notice: &[u8],
-    m: Summary,
-    plan: Plan,
-    marks: &[u8; 1000],
-    new: &mut [u64],
-) -> Merged
-    requires { (m.header.lines ≤ most_lines) × (header_words + length (merged_by old.now plan marks.now (lines_at m.header.lines notice.now m.header.start)) * entry_words ≤ length new.old) }
-    ensures value { (result.count ≡ length (merged_by old.now plan marks.now (lines_at m.header.lines notice.now m.header.start))) × (result.latest ≡ latest_by plan (found_in old.now) (latest_of old.now) (lines_at m.header.lines notice.now m.header.start)) }
-    ensures after { new.new ≡ book_of (length new.old) (period_of old.now) m.header.received
-        (latest_by plan (found_in old.now) (latest_of old.now) (lines_at m.header.lines notice.now m.header.start)) (merged_by old.now plan marks.now (lines_at m.header.lines notice.now m.header.start)) }
-{
-    let done = merge::merge(
-        old,
-        notice,
-        m.header.start,
-        m.header.lines,
-        plan,
-        marks,
-        new,
-    );
-    book_words::clear(
-        new,
-        book_words::HEADER_WORDS + done.count * book_words::ENTRY_WORDS,
-    );
-    let before = book_words::header_of(old);
-    let header = Header {
-        count: done.count as u64,
-        period: before.period,
-        received: m.header.received,
-        latest: done.latest,
-    };
-    book_words::write_header(new, header);
-    done
+impl<'a, 'm> Model for NewBook<'a, 'm> {
+    ghost Value = { Contents };
+
+    ghost view = { λ b. contents b.before.now b.closings.plan b.closings.marks.now b.header.received (lines_at b.header.lines b.notice.now b.header.start) };
+
+    ghost invariant = { λ b. b.header.lines ≤ most_lines };
+}
+
+impl NewBook<'_, '_> {
+    // Puts those of its entries that there is room for into words: into no words, it only counts them.
+    #[tactic(auto, using(merge::proofs::Merging::written))]
+    fn merge(&self, new: &mut [u64]) -> Merged
+        ensures value { (result.count ≡ length self.now.entries) × (result.latest ≡ self.now.latest) }
+        ensures after { new.new ≡ put_entries new.old 0 self.now.entries }
+    {
+        merge::merge(
+            self.before,
+            self.notice,
+            self.header.start,
+            self.header.lines,
+            self.closings,
+            new,
+        )
+    }
+
+    // Whether so many words can hold it. The entries are at most two for each of the book before and one for each line, and are
+    // counted only where there might be no room for so many.
+    fn has_room(&self, len: usize) -> bool
+        ensures { result ≡ leb (length self.now.entries) (held len) }
+    {
+        let most = book_words::entries_held(len);
+        if (book::headed_count(self.before) as u64) * 2 + self.header.lines <= most as u64 {
+            return true;
+        }
+        let counted = self.merge(&mut []);
+        counted.count <= most
+    }
+
+    // Writes it: entries, zeros, header.
+    fn fill(&self, new: &mut [u64]) -> Merged
+        requires { header_words + length self.now.entries * entry_words ≤ length new.old }
+        ensures value { (result.count ≡ length self.now.entries) × (result.latest ≡ self.now.latest) }
+        ensures after { new.new ≡ book_of (length new.old) self.now.period self.now.received self.now.latest self.now.entries }
+    {
+        let done = self.merge(new);
+        book_words::clear(
+            new,
+            book_words::HEADER_WORDS + done.count * book_words::ENTRY_WORDS,
+        );
+        let header = Header {
+            count: done.count as u64,
+            period: book_words::header_of(self.before).period,
+            received: self.header.received,
+            latest: done.latest,
+        };
+        book_words::write_header(new, header);
+        done
+    }
 }

@@ -8,12 +8,14 @@ use native.Mathlib.Numerals.{add-one}
 use native.Mathlib.Omega.{arith}
 use borrow.Author.Tests.{lt-ltb, le-ltb, eq-eqb, ne_eqb, eqb-true, eqb-false}
 use lib.ListN.{length, get_or, drop, drop_of_length-le}
-use lib.Seq.{drop-cons}
+use lib.Seq.{drop-cons, get_or-drop}
 use lib.Dec.{eqb, ltb, lit<}
 use Rattle.varint.specs.Reading.{above, groups, from, read_number}
 use Rattle.refusal.specs.declared.Refusal.TheVariants.{BytesEnd, NotShortest}
 use Rattle.refusal.specs.Steps.{Read, ok_at}
 use Rattle.std.proofs.Common.{Ok, Err}
+use Rattle.std.proofs.lemmas.List.{take_rest}
+use Rattle.std.specs.List.{slice_range}
 
 -- What the bytes ahead of `at` read as, put above the groups before them, which come to `sum` in units below `place`.
 unfoldable pub onto : ℕ → ℕ → ℕ → Read ℕ → Read ℕ
@@ -97,6 +99,67 @@ room place left sum v h e l u =
       total = let w : v ≤ 127 = omega arith in omega (arith, mul-le-mul_left place w);
       again = again;
     }
+
+-- The loop at its i-th group: what the number at `start` reads as is what the bytes of `s` from the i-th on read as, put above the
+-- groups before them.
+pub record Ahead (r : Read ℕ) (start i place sum : ℕ) (s : List ℕ) : Type 0 where
+  pub reads : r ≡ onto place sum (start + i) (groups (9 - i) (drop i s))
+  pub fills : place * 128 ^ (9 - i) ≡ 2 ^ 63
+  pub below : sum < place
+
+-- It begins at the first, in the rest of the bytes.
+pub first : {r : List ℕ} (s : List ℕ) (at : ℕ) → r ≡ slice_range s at (length s) → Ahead (read_number s at) at 0 1 0 r
+unfolding read_number
+first s at e =
+    let f : at + 0 ≡ at = omega arith in
+    record { reads = rw (e, take_rest s at, f) (begins at (groups 9 (drop at s))); fills = omega arith; below = omega arith }
+
+pub a_byte : {r : List ℕ} (s : List ℕ) (at i : ℕ) → r ≡ slice_range s at (length s) → get_or s (at + i) 0 < 256
+    → get_or r i 0 < 256
+a_byte s at i e h = rw (e, take_rest s at, get_or-drop at s i 0) h
+
+-- Where the bytes end before the place, none is read.
+pub past_end : (s : List ℕ) (at : ℕ) → length s ≤ at → read_number s at ≡ Err BytesEnd
+unfolding read_number groups from
+past_end s at h = rw (drop_of_length-le s h)
+
+module _ {r : Read ℕ} {start i place sum : ℕ} {s : List ℕ} (a : Ahead r start i place sum s) where
+  pub all_read : 9 ≤ i → r ≡ Err NotShortest
+  all_read h = spent (9 - i) place sum (start + i) i s a.reads (omega arith)
+
+  module _ (h : i < 9) where
+    pub no_byte : length s ≤ i → r ≡ Err BytesEnd
+    no_byte l = ends (9 - i) place sum (start + i) i s a.reads (omega arith) l
+
+    pub last_group : (b : ℕ) → i < length s → b ≡ get_or s i 0 → b < 128 → (b ≡ 0 → place ≡ 1)
+        → r ≡ ok_at (sum + place * b) (start + i + 1)
+    last_group b l e u one = last (9 - i) place sum (start + i) i s a.reads b (omega arith) l e u one
+
+    pub zero_group : i < length s → get_or s i 0 ≡ 0 → (place ≡ 1 → ⊥) → r ≡ Err NotShortest
+    zero_group l z ne = longer (9 - i) place sum (start + i) i s a.reads 0 (omega arith) l (sym z) refl ne
+
+    fits : (v : ℕ) → v < 128 → Room place (9 - i) sum v
+    fits v u = room place (9 - i) sum v (omega arith) a.fills a.below u
+
+    pub place_fits : place * 128 ≤ 2 ^ 63
+    place_fits = (fits 0 (omega arith)).most
+
+    pub sum_fits : (v : ℕ) → v < 128 → sum + place * v < 2 ^ 63
+    sum_fits v u = let p = fits v u in omega arith
+
+    pub turn : (b : ℕ) → i < length s → b ≡ get_or s i 0 → 128 ≤ b → b < 256
+        → Ahead r start (i + 1) (place * 128) (sum + place * (b - 128)) s
+    turn b l e u w =
+        let p = fits (b - 128) (omega arith) in
+        let f : start + i + 1 ≡ start + (i + 1) = omega arith in
+        let k : 9 - i - 1 ≡ 9 - (i + 1) = omega arith in
+        record {
+          reads = rw (← f, ← k) (next (9 - i) place sum (start + i) i s a.reads b (omega arith) l e u w (omega (arith, a.below)));
+          fills = rw (← k) p.again;
+          below = p.total;
+        }
+
+pub ruleset reading = (first, past_end, no_byte, last_group, zero_group, place_fits, sum_fits)
 
 -- one byte below 128 is a number
 pub one_group : (s : List ℕ) (at b : ℕ) → at < length s → b ≡ get_or s at 0 → b < 128 → read_number s at ≡ ok_at b (at + 1)

@@ -11,7 +11,8 @@ use refusal::{Read, Refusal};
 // At most so many groups.
 pub const MOST_GROUPS: usize = 9;
 
-// The number at a position of a slice.
+// The number at a position of a slice. Slice and position stay two: each reading answers with the place after it, for the next.
+#[tactic(auto, using(crate::proofs::Model::reading))]
 pub fn read_number(s: &[u8], at: usize) -> Read<u64>
     ensures { result ≡ read_number s.now at }
 {
@@ -20,6 +21,7 @@ pub fn read_number(s: &[u8], at: usize) -> Read<u64>
     };
     let mut place: u64 = 1;
     let mut sum: u64 = 0;
+    // No plainer as a walk over the bytes: after it, their end would have to be told from a ninth group that goes on.
     for i in 0..MOST_GROUPS {
         let Some(&byte) = rest.get(i) else {
             return Err(Refusal::BytesEnd);
@@ -37,7 +39,9 @@ pub fn read_number(s: &[u8], at: usize) -> Read<u64>
     Err(Refusal::NotShortest)
 }
 
-// The number at a position of a slice, the short way where it has one group, as most fields do.
+// The number at a position of a slice, the short way where it has one group, as most fields do: that much is compiled into its
+// callers, which all of `read_number` is too long for.
+#[tactic(auto, using(crate::proofs::Model::one_group))]
 pub fn read_field(s: &[u8], at: usize) -> Read<u64>
     ensures { result ≡ read_number s.now at }
 {
@@ -59,6 +63,7 @@ pub fn in_range(read: Read<u64>, least: u64, most: u64) -> Read<u64>
 }
 
 // The number at a position, from least to most: 1, 2, then 4.
+#[tactic(auto, unfolding(crate::specs::Ranged::read_ranged))]
 pub fn read_ranged(s: &[u8], at: usize, least: u64, most: u64) -> Read<u64>
     ensures { result ≡ read_ranged s.now at least most }
 {

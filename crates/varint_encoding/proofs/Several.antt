@@ -1,75 +1,30 @@
 -- Several numbers one after the other: how many bytes they take, and that they read back.
 -- Assumes nothing.
-use Rattle.std.proofs.Common.{◌≡◌, refl, ap, sym, ◌∙◌, ℕ, ◌+◌, ◌*◌, ◌^◌, ◌≤◌, ◌<◌, true, false, Some, None, List, [], ◌∷◌, ◌++◌, append_assoc, length, length-append, get_or, take, drop, arith}
+use Rattle.std.proofs.Common.{◌≡◌, refl, ap, sym, ◌∙◌, ℕ, ◌+◌, ◌*◌, ◌^◌, ◌≤◌, ◌<◌, true, Some, List, [], ◌∷◌, ◌++◌, append_assoc, length, length-append, get_or, take, drop, arith}
 use Rattle.std.proofs.lemmas.Grind.{common_steps, flat_map-append}
-use Rattle.std.proofs.lemmas.Bool.Decides.{nat_tests}
 use Rattle.std.proofs.lemmas.List.Folds.{length-flat_map-take}
 use borrow.Author.Tests.{lt-ltb}
 use lib.Seq.{drop-drop, drop-append_seam}
 use Rattle.varint.specs.Reading.{from, read_number}
-use Rattle.varint_encoding.specs.Encoding.{encode, size_of, size_if_encodable}
+use Rattle.varint_encoding.specs.Encoding.{encode}
 use Rattle.varint_encoding.specs.Several.{encode_all, encodable_all, size_of_all, sizes_if_encodable}
 use Rattle.varint_encoding.proofs.Groups.{back}
 use Rattle.varint_encoding.proofs.Laws.{size}
 use Rattle.refusal.specs.Steps.{ok_at}
 
--- Where a number has no size it is too large. Where it has one it is not, and that is how many bytes it takes, at most 9.
-pub no_size : (n : ℕ) → None ≡ size_if_encodable n → 2 ^ 63 ≤ n
-no_size n e = grind (arith, nat_tests)
-
-pub some_size : (n size : ℕ) → Some size ≡ size_if_encodable n → (n < 2 ^ 63) × (size ≡ length (encode n))
-unfolding size_of
-some_size n size e = grind (arith, nat_tests)
-
-pub size_most : (n size : ℕ) → Some size ≡ size_if_encodable n → size ≤ 9
-size_most n r e = omega (arith, (some_size n r e).1, size n)
-
-pub sized : (n r : ℕ) → r ≡ size_of n → n < 2 ^ 63 → r ≡ length (encode n)
-unfolding size_of
-sized n r e h = e ∙ rw (lt-ltb _ _ h)
-
--- a number below 128 takes one
-pub one_byte : (n : ℕ) → n < 128 → length (encode n) ≡ 1
-unfolding encode
-one_byte n h = rw (lt-ltb _ _ h)
-
--- The same of several numbers.
-pub no_sizes : (ns : List ℕ) → None ≡ sizes_if_encodable ns → encodable_all ns ≡ false
-no_sizes ns e = grind (arith, nat_tests)
-
-pub some_sizes : (ns : List ℕ) (size : ℕ) → Some size ≡ sizes_if_encodable ns → (encodable_all ns ≡ true) × (size ≡ length (encode_all ns))
-unfolding size_of_all
-some_sizes ns size e = grind (arith, nat_tests)
-
+-- Where several numbers have an encoding, the size of all is how many bytes it takes.
 pub all_sizes : (ns : List ℕ) → encodable_all ns ≡ true → sizes_if_encodable ns ≡ Some (length (encode_all ns))
 unfolding size_of_all
 all_sizes ns e = rw e
-
-pub none_all : (ns : List ℕ) → encodable_all ns ≡ false → size_of_all ns ≡ 0
-unfolding size_of_all
-none_all ns e = rw e
-
-pub all_sized : (ns : List ℕ) → encodable_all ns ≡ true → size_of_all ns ≡ length (encode_all ns)
-unfolding size_of_all
-all_sized ns e = rw e
 
 -- No numbers have an encoding, and several have one where the first has one and the others have.
 pub all_nil : encodable_all [] ≡ true
 unfolding encodable_all
 all_nil = refl
 
-pub all_first : (n : ℕ) (ns : List ℕ) → encodable_all (n ∷ ns) ≡ true → (n < 2 ^ 63) × (encodable_all ns ≡ true)
-unfolding encodable_all
-all_first n ns e = grind (arith, nat_tests)
-
 pub all_cons : (n : ℕ) (ns : List ℕ) → n < 2 ^ 63 → encodable_all (n ∷ ns) ≡ encodable_all ns
 unfolding encodable_all
 all_cons n ns h = rw (lt-ltb _ _ h)
-
--- Where the last is too large, they have none.
-pub last_large : (ns : List ℕ) (n : ℕ) → 2 ^ 63 ≤ n → encodable_all (ns ++ (n ∷ [])) ≡ false
-unfolding encodable_all
-last_large ns n h = grind (arith, common_steps)
 
 -- Each of some numbers that have an encoding has one
 pub all_mid : (ms : List ℕ) (n : ℕ) (ns : List ℕ) → encodable_all (ms ++ (n ∷ ns)) ≡ true → n < 2 ^ 63

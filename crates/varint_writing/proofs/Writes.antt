@@ -26,10 +26,6 @@ pub ruleset one_more = (length-append, bytes_nil, turn_bytes, turn_fits, turn_wi
 pub ruleset fitting = (nine_each, sets-eq)
 
 module _ (s : List ℕ) (at : ℕ) (ns : List ℕ) where
-  -- an answer and the bytes left, as the contract has them
-  abbrev pub ComesAll : Result ℕ WriteError → List ℕ → Type 0
-  ComesAll r l = (r ≡ answer_all (length s) at ns) × (l ≡ leaves_all s at ns)
-
   -- Where each has an encoding and there is room for all, they are written.
   pub writes : encodable_all ns ≡ true → at + length (encode_all ns) ≤ length s
       → (answer_all (length s) at ns ≡ Ok (at + length (encode_all ns)))

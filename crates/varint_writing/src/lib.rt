@@ -23,13 +23,13 @@ fn fits(room: usize, at: usize, size: usize) -> bool
 }
 
 // Writes a number where there is room for it, and gives the position after it.
-#[tactic(auto, using(varint_encoding::proofs::Groups::single, varint_encoding::proofs::Groups::some_byte))]
+#[tactic(auto, using(varint_encoding::proofs::Groups::single, varint_encoding::proofs::Groups::some_byte, varint_encoding::proofs::Groups::more), unfolding(varint_encoding::specs::Encoding::encode))]
 fn put_number(out: &mut [u8], at: usize, n: u64) -> usize
     requires { (n < 2 ^ 63) × (at + length (encode n) ≤ length out.old) }
     ensures value { result ≡ at + length (encode n) }
     ensures after { out.new ≡ sets out.old at (encode n) }
 {
-    // The value tells where its groups end: no index or iterator counts them.
+    // The value tells where its groups end: their count is not known before.
     let mut m = n;
     let mut i = at;
     while 128 <= m {
@@ -41,7 +41,8 @@ fn put_number(out: &mut [u8], at: usize, n: u64) -> usize
     i + 1
 }
 
-// Writes several numbers one after the other where there is room for them, and gives the position after them.
+// Writes several numbers one after the other where there is room for them, and gives the position after them, for what is written
+// next.
 #[tactic(auto, using(crate::proofs::Writes::one_more))]
 fn put_numbers(out: &mut [u8], at: usize, numbers: &[u64]) -> usize
     requires { (encodable_all numbers.now ≡ true) × (at + length (encode_all numbers.now) ≤ length out.old) }
@@ -56,13 +57,14 @@ fn put_numbers(out: &mut [u8], at: usize, numbers: &[u64]) -> usize
 }
 
 // Whether each of several numbers has an encoding.
+#[tactic(auto, unfolding(varint_encoding::specs::Several::encodable_all))]
 fn are_encodable(numbers: &[u64]) -> bool
     ensures { result ≡ encodable_all numbers.now }
 {
     numbers.iter().all(|&n| n < varint_encoding::TOO_LARGE)
 }
 
-// Whether there is room from a position on for so many numbers, however large.
+// Whether there is room from a position on for so many numbers, however large: by a division, which cannot overflow.
 fn is_ample(room: usize, at: usize, count: usize) -> bool
     ensures { result ≡ leb (at + most_groups * count) room }
 {

@@ -2,6 +2,9 @@ use Rattle.std.proofs.Common.{◌≡◌, ◌≤◌, ap, sym, ◌∙◌, length, 
 use Rattle.code_cell.specs.Cell.{entry_names, cell_keys, checked}
 use Rattle.code_cell.specs.Count.{good_ranges, outcome, all_keys}
 use Rattle.code_cell.proofs.Refusals.{own_cell, plain_cell}
+use Rattle.code_cell.specs.Reading.{names_left}
+use Rattle.std.proofs.lemmas.List.Edits.{sets}
+use Rattle.cell_keys.proofs.Backward.{from_last_fits, from_last_keys, from_first_fits, from_first_keys}
 use Rattle.cell_keys.proofs.Ones.{unchecked, good_keys}
 use Rattle.cell_keys.proofs.cell_keys.Goals.{In_ok-check_cell}
 use Rattle.cell_keys.proofs.cell_keys.Goals as goal
@@ -24,20 +27,25 @@ returns-then-is_own c =
 pub returns-in_err-check_cell : goal.returns-in_err-check_cell
 returns-in_err-check_cell c = rw (unchecked _ _ (sym c.in_err-check_cell.ensures)) (search rules)
 
-pub write_backward-requires : goal.write_backward-requires
-write_backward-requires c =
-    let p = plain (goal.at.write_backward-requires c).In_ok-check_cell in record { none_refused = p.1; room = p.2 }
+pub write_ranges-requires-clause-room : goal.write_ranges-requires-clause-room
+write_ranges-requires-clause-room c =
+    let p = plain (goal.at.write_ranges-requires-clause-room c).In_ok-check_cell in
+    from_last_fits _ p.1 _ (ap names_left c.rev.ensures.source ∙ c.new-entries.ensures) _ p.2
 
-pub write_entries-requires : goal.write_entries-requires
-write_entries-requires c =
-    let p = plain (goal.at.write_entries-requires c).In_ok-check_cell in record { none_refused = p.1; room = p.2 }
+pub write_ranges-requires-2-clause-room : goal.write_ranges-requires-2-clause-room
+write_ranges-requires-2-clause-room c =
+    let p = plain (goal.at.write_ranges-requires-2-clause-room c).In_ok-check_cell in from_first_fits _ _ c.new-entries.ensures _ p.2
 
 pub returns-then-is_falling : goal.returns-then-is_falling
 returns-then-is_falling c =
     let p = plain (goal.at.returns-then-is_falling c).In_ok-check_cell in
-    rw p.0 (record { value = ap Ok c.write_backward.ensures.value; after = c.write_backward.ensures.after })
+    let w = c.write_ranges.ensures in
+    let k = from_last_keys _ p.1 _ (ap names_left c.rev.ensures.source ∙ c.new-entries.ensures) w.0 w.1 in
+    rw p.0 (record { value = ap Ok (w.2 ∙ ap length k); after = w.3 ∙ ap (sets c.args.keys.now 0) k })
 
 pub returns : goal.returns
 returns c =
     let p = plain (goal.at.returns c).In_ok-check_cell in
-    rw p.0 (record { value = ap Ok c.write_entries.ensures.value; after = c.write_entries.ensures.after })
+    let w = c.write_ranges-2.ensures in
+    let k = from_first_keys _ _ c.new-entries.ensures w.0 w.1 in
+    rw p.0 (record { value = ap Ok (w.2 ∙ ap length k); after = w.3 ∙ ap (sets c.args.keys.now 0) k })

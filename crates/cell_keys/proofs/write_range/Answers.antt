@@ -2,7 +2,8 @@ use Rattle.std.proofs.Common.{ap, sym, ◌∙◌, length, arith, Ok}
 use Rattle.std.proofs.lemmas.List.Edits.{sets}
 use Rattle.code_entry.specs.Codes.{Writable}
 use Rattle.code_cell.specs.Cell.{how_many, keys_of}
-use Rattle.cell_keys.proofs.Ones.{one_fits, one_full, count_so}
+use Rattle.cell_keys.proofs.Ones.{one_fits, one_full}
+use Rattle.code_cell.proofs.Orders.{count_so}
 use Rattle.cell_keys.proofs.write_range.Goals.{After-range}
 use Rattle.cell_keys.proofs.write_range.Goals as goal
 
@@ -21,6 +22,6 @@ returns c =
     let n = ap (λ x. x.count) c.range.view_is in
     let e = one_fits (length c.args.keys.now) _ w (omega (arith, n, c.if-keys-count.false)) in
     record {
-      value = ap Ok (n ∙ sym (count_so (length c.args.keys.now) _ w)) ∙ sym (ap how_many e);
+      value = ap Ok (n ∙ sym (count_so _ w)) ∙ sym (ap how_many e);
       after = c.fill.ensures ∙ sym (ap (λ x. sets c.args.keys.now 0 (keys_of x)) e);
     }

@@ -14,7 +14,7 @@ plain_at c = sym c.is_own.ensures ∙ c.if-is_own.false
 
 -- what they name
 ranges_at : (c : After-look_over-survey) → ranges_left c.new-entries.result ≡ good_ranges (entry_names c.args.country.now c.args.cell.now)
-ranges_at c = ap good_ranges c.new-entries.ensures.names
+ranges_at c = ap good_ranges c.new-entries.ensures
 
 -- the first look
 bound_at : (c : After-look_over-survey) →
@@ -22,7 +22,7 @@ bound_at : (c : After-look_over-survey) →
 bound_at c = ap (λ x. x.bound) c.look_over-survey.ensures ∙ ap (bound_of (length c.args.keys.now) 0 None) (ranges_at c)
 
 answer_at : (c : After-look_over-survey) → c.look_over-survey.result.answer ≡ outcome (entry_names c.args.country.now c.args.cell.now)
-answer_at c = ap (λ x. x.answer) c.look_over-survey.ensures ∙ c.new-entries.ensures.none_refused
+answer_at c = ap (λ x. x.answer) c.look_over-survey.ensures ∙ ap outcome c.new-entries.ensures
 
 pub returns-then-is_own : goal.returns-then-is_own
 returns-then-is_own c =

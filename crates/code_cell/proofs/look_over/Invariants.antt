@@ -1,12 +1,12 @@
 use Rattle.std.proofs.Common.{◌≡◌, None, length}
-use Rattle.code_cell.specs.Count.{bound_of}
-use Rattle.code_cell.specs.Reading.{names_left, ranges_left, outcome_left}
+use Rattle.code_cell.specs.Count.{bound_of, outcome}
+use Rattle.code_cell.specs.Reading.{names_left, ranges_left}
 use Rattle.code_cell.proofs.look_over.Given as goal
 
 abbrev pub invariant-loop-range : goal.invariant-loop-range
 invariant-loop-range l =
     (bound_of l.room l.bound l.before (ranges_left l.left) ≡ bound_of l.room 0 None (ranges_left l.entries))
-    × (outcome_left l.left ≡ outcome_left l.entries)
+    × (outcome (names_left l.left) ≡ outcome (names_left l.entries))
 
 abbrev pub decreases-loop-range : goal.decreases-loop-range
 decreases-loop-range l = length (names_left l.left)

@@ -1,11 +1,7 @@
--- `country_marks::mark_lines` meets its contract. The invariant: marking the lines that are left comes to the marks of all of them.
--- Assumes nothing.
-use mathlib.Core.Path.{◌≡◌}
-use Prim.Native.Nat.{◌-◌}
-use Rattle.notice.specs.Lines.{lines_at}
+-- Marking the lines that are left comes to the marks of all of them.
+use Rattle.std.proofs.Common.{◌≡◌}
 use Rattle.country_marks.specs.Marks.{marks_of}
 use Rattle.country_marks.proofs.mark_lines.Given as goal
 
-abbrev pub invariant-loop : goal.invariant-loop
-invariant-loop l =
-    marks_of l.marks (lines_at (l.lines - l.counter) l.notice l.at) ≡ marks_of l.initial.marks (lines_at l.lines l.notice l.start)
+abbrev pub invariant-loop-line : goal.invariant-loop-line
+invariant-loop-line l = marks_of l.marks l.line-iterator ≡ marks_of l.initial.marks l.initial.line-iterator

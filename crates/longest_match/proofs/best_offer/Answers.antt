@@ -11,11 +11,10 @@ use native.Mathlib.Omega.{arith}
 use Rattle.dial_code.proofs.CountedKeys.{next_weight, weight_most}
 use Rattle.longest_match.specs.Search.{tried, best_found}
 use Rattle.longest_match.specs.Match.{standing}
-use Rattle.book.proofs.Headers.{count_room}
-use Rattle.longest_match.proofs.Halving.{found_room}
+use Rattle.longest_match.proofs.Halving.{some_last}
 use Rattle.longest_match.proofs.Matching.{stands, passes, place_key, next_quotient, prefix_most}
-use Rattle.longest_match.proofs.Matching.{starts, no_place, no_entry_law, passed_by, searched}
-use Rattle.longest_match.proofs.best_offer.Goals.{After-unwrap_or-offer, else-k-bound, then-k-bound+else-is_standing}
+use Rattle.longest_match.proofs.Matching.{starts, no_place, none_found, passed_by, searched}
+use Rattle.longest_match.proofs.best_offer.Goals.{After-unwrap_or-offer, else-k-bound, then-k-bound+in-Some+else-is_standing}
 use Rattle.longest_match.proofs.best_offer.Goals as goal
 
 -- the offer that a word stands for, closed where it is no offer word
@@ -32,27 +31,23 @@ at_offer :
     let k = l.quotient * l.place in
     best_found a.words.now a.key a.day
     ≡ standing c.unwrap_or-offer.result k
-    (tried a.words.now a.key a.day (l.invariant.places - 1) c.entries_up_to-count.result
-    (min c.last_entry-e.result.key (k - 1)))
+    (tried c.entries_up_to-entries.result a.key a.day (l.invariant.places - 1) (min c.in-Some.e.key (k - 1)))
 at_offer c =
     let l = c.loop in
     l.invariant.rest
-    ∙ searched _ _ _ l.invariant.places l.count l.bound _
+    ∙ searched _ _ _ l.invariant.places l.bound _
     (omega (arith, c.loop-test.true))
     (place_key _ _ _ _ l.invariant.weight l.invariant.truncated)
     c.if-k-bound.true
-    c.entries_up_to-count.ensures
-    c.last_entry-e.ensures
+    c.entries_up_to-entries.ensures
+    (some_last _ c.in-Some.ensures.1)
     c.own_word.ensures
     (held _ _ c.try_from.ensures c.unwrap_or-offer.ensures)
 
 pub loop-init : goal.loop-init
 loop-init c =
-    let e = c.headed_count-count.ensures in
-    record { places = 15; left = refl; weight = refl; truncated = omega arith; room = rw e (count_room _).0; rest = starts _ _ _ e }
-
-pub returns-then-count-eq0 : goal.returns-then-count-eq0
-returns-then-count-eq0 c = sym (c.loop.invariant.rest ∙ no_entry_law _ _ _ _ _ _ c.if-count-eq0.true)
+    let e = c.entries-entries.ensures in
+    record { places = 15; left = refl; weight = refl; truncated = omega arith; rest = starts _ _ _ e }
 
 pub overflow_mul-k : goal.overflow_mul-k
 overflow_mul-k c =
@@ -60,8 +55,16 @@ overflow_mul-k c =
     let a = c.args in
     omega (arith, place_key _ _ _ _ i.weight i.truncated, prefix_most a.key i.places)
 
-pub last_entry-e-requires : goal.last_entry-e-requires
-last_entry-e-requires c = found_room _ _ _ _ c.loop.invariant.room c.entries_up_to-count.ensures
+pub returns-in_default : goal.returns-in_default
+returns-in_default c =
+    let l = c.loop in
+    let i = l.invariant in
+    let q = place_key _ _ _ _ i.weight i.truncated in
+    sym
+    (i.rest
+    ∙ none_found _ _ _ i.places l.bound _ (omega (arith, c.loop-test.true)) q c.if-k-bound.true
+    c.entries_up_to-entries.ensures
+    c.in_default.ensures)
 
 pub returns-then-is_standing : goal.returns-then-is_standing
 returns-then-is_standing c =
@@ -81,29 +84,25 @@ loop-preserved c =
       left = omega arith;
       weight = next_weight _ _ h (omega arith) i.weight;
       truncated = next_quotient _ _ _ i.truncated;
-      room = elim c.if-k-bound.branch [
-        | then-k-bound+else-is_standing v ↦ rw v.count-is (found_room _ _ _ _ i.room v.entries_up_to-count.ensures)
-        | else-k-bound v ↦ rw v.count-is i.room
-      ];
       rest = elim c.if-k-bound.branch [
-        | then-k-bound+else-is_standing v ↦
+        | then-k-bound+in-Some+else-is_standing v ↦
             let a = c.args in
             let k = l.quotient * l.place in
-            let rest = tried a.words.now a.key a.day (i.places - 1) v.entries_up_to-count.result (min v.last_entry-e.result.key (k - 1)) in
-            rw (v.count-is, v.bound-is, v.min-bound.ensures, v.saturating_sub.ensures)
+            let rest = tried v.entries_up_to-entries.result a.key a.day (i.places - 1) (min v.in-Some.e.key (k - 1)) in
+            rw (v.entries-is, v.bound-is, v.min-bound.ensures, v.saturating_sub.ensures)
             (i.rest
-            ∙ searched _ _ _ i.places l.count l.bound _ h q
+            ∙ searched _ _ _ i.places l.bound _ h q
             v.if-k-bound.true
-            v.entries_up_to-count.ensures
-            v.last_entry-e.ensures
+            v.entries_up_to-entries.ensures
+            (some_last _ v.in-Some.ensures.1)
             v.own_word.ensures
             (held _ _ v.try_from.ensures v.unwrap_or-offer.ensures)
             ∙ passes v.unwrap_or-offer.result k rest (sym v.is_standing.ensures ∙ v.if-is_standing.false))
-        | else-k-bound v ↦ rw (v.count-is, v.bound-is) (i.rest ∙ passed_by _ _ _ _ _ _ _ h q v.if-k-bound.false)
+        | else-k-bound v ↦ rw (v.entries-is, v.bound-is) (i.rest ∙ passed_by _ _ _ _ _ _ h q v.if-k-bound.false)
       ];
     }
 
 pub returns : goal.returns
 returns c =
     let i = c.loop.invariant in
-    sym (i.rest ∙ no_place _ _ _ i.places _ _ (omega arith))
+    sym (i.rest ∙ no_place _ _ _ i.places _ (omega arith))

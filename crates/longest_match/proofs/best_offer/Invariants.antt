@@ -1,9 +1,7 @@
 -- best_offer meets its contract. The loop's invariant: what is left to try, of `places` or fewer, gives the answer; `place` is the
 -- weight of the last of them, and `quotient` the key's by it. Assumes nothing.
 use mathlib.Core.Path.{◌≡◌}
-use Prim.Native.Nat.{ℕ, ◌-◌, ◌*◌, ◌/◌, ◌^◌, ◌≤◌}
-use lib.ListN.{length}
-use Rattle.book_words.specs.Layout.{header_words, entry_words}
+use Prim.Native.Nat.{ℕ, ◌-◌, ◌/◌, ◌^◌}
 use Rattle.longest_match.specs.Search.{tried, best_found}
 use Rattle.longest_match.proofs.best_offer.Given as goal
 
@@ -13,6 +11,5 @@ invariant-loop l = record {
   left : places ≡ 15 - l.counter;
   weight : l.place ≡ 11 ^ (15 - places);
   truncated : l.quotient ≡ l.key / l.place;
-  room : l.count * entry_words ≤ length l.words - header_words;
-  rest : best_found l.words l.key l.day ≡ tried l.words l.key l.day places l.count l.bound;
+  rest : best_found l.words l.key l.day ≡ tried l.entries l.key l.day places l.bound;
 }

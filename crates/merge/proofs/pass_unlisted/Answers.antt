@@ -13,13 +13,13 @@ use Rattle.merge.proofs.pass_unlisted.Goals as goal
 
 -- what is remembered of codes closed alike, and whether the entry's is closed
 known : (c : Joined-not-contains) →
-    let a = c.args in
-    ClosedAlike a.plan a.marks.now c.if-not-contains.alike
-    × (c.if-not-contains.alike.closed ≡ closes_by a.plan a.marks.now c.in-Some.e.key)
+    let notice = c.args.closings in
+    ClosedAlike notice.plan notice.marks.now c.if-not-contains.alike
+    × (c.if-not-contains.alike.closed ≡ closes_by notice.plan notice.marks.now c.in-Some.e.key)
 known c =
-    let a = c.args in
+    let notice = c.args.closings in
     elim c.if-not-contains.branch [
-      | then-not-contains v ↦ rw (v.alike-is ∙ v.closed_range-alike.ensures) (range_alike a.plan a.marks.now _, range_closed a.plan a.marks.now _)
+      | then-not-contains v ↦ rw (v.alike-is ∙ v.closed_range-alike.ensures) (range_alike notice.plan notice.marks.now _, range_closed notice.plan notice.marks.now _)
       | else-not-contains v ↦
           let within : is_within c.loop-e.alike.keys c.in-Some.e.key ≡ true = search rules in
           rw v.alike-is (c.loop-e.invariant.4, c.loop-e.invariant.4 c.in-Some.e.key within)
@@ -27,18 +27,19 @@ known c =
 
 pub loop-e-preserved : goal.loop-e-preserved
 loop-e-preserved c =
-    let a = c.args in
+    let below = c.args.below in
+    let notice = c.args.closings in
     let l = c.loop-e in
     let es = c.next.new.self in
     let next : l.rest ≡ c.in-Some.e ∷ es = search rules in
     let k = known (goal.at.loop-e-preserved c).Joined-not-contains in
-    let gap = gap_on a.below (closes_by a.plan a.marks.now) a.plan.closing _ _ next c.if-below-e.false k.1 in
+    let gap = gap_on below (closes_by notice.plan notice.marks.now) notice.plan.closing _ _ next c.if-below-e.false k.1 in
     let put = c.put_unlisted-count.ensures in
-    let xs = unlisted_as c.if-not-contains.alike.closed a.plan.closing c.in-Some.e es in
-    let ys = gap_below a.below (closes_by a.plan a.marks.now) a.plan.closing es in (
-      omega (arith, l.invariant.0, put.value, ap length next, at_most_two a.plan.closing c.in-Some.e es c.if-not-contains.alike.closed),
+    let xs = unlisted_as c.if-not-contains.alike.closed notice.plan.closing c.in-Some.e es in
+    let ys = gap_below below (closes_by notice.plan notice.marks.now) notice.plan.closing es in (
+      omega (arith, l.invariant.0, put.value, ap length next, at_most_two notice.plan.closing c.in-Some.e es c.if-not-contains.alike.closed),
       omega (arith, l.invariant.1, put.value, ap length gap, length-append xs ys),
       puts_on l.new l.count c.put_unlisted-count.result xs ys put.value put.after refl ∙ ap (put_entries l.new l.count) (sym gap) ∙ l.invariant.2,
-      sym (rest_on a.below _ _ next c.if-below-e.false) ∙ l.invariant.3,
+      sym (rest_on below _ _ next c.if-below-e.false) ∙ l.invariant.3,
       k.0,
     )

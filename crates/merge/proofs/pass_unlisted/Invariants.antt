@@ -11,12 +11,12 @@ use Rattle.merge.proofs.pass_unlisted.Given as goal
 abbrev pub invariant-loop-e : goal.invariant-loop-e
 invariant-loop-e l =
     (l.count + 2 * length l.rest ≤ most_merged)
-    × (l.count + length (gap_below l.below (closes_by l.plan l.marks) l.plan.closing l.rest)
-    ≡ l.initial.count + length (gap_below l.below (closes_by l.plan l.marks) l.plan.closing l.initial.rest))
-    × (put_entries l.new l.count (gap_below l.below (closes_by l.plan l.marks) l.plan.closing l.rest)
-    ≡ put_entries l.initial.new l.initial.count (gap_below l.below (closes_by l.plan l.marks) l.plan.closing l.initial.rest))
+    × (l.count + length (gap_below l.below (closes_by l.closings.plan l.closings.marks.now) l.closings.plan.closing l.rest)
+    ≡ l.initial.count + length (gap_below l.below (closes_by l.closings.plan l.closings.marks.now) l.closings.plan.closing l.initial.rest))
+    × (put_entries l.new l.count (gap_below l.below (closes_by l.closings.plan l.closings.marks.now) l.closings.plan.closing l.rest)
+    ≡ put_entries l.initial.new l.initial.count (gap_below l.below (closes_by l.closings.plan l.closings.marks.now) l.closings.plan.closing l.initial.rest))
     × (rest_from l.below l.rest ≡ rest_from l.below l.initial.rest)
-    × ClosedAlike l.plan l.marks l.alike
+    × ClosedAlike l.closings.plan l.closings.marks.now l.alike
 
 abbrev pub decreases-loop-e : goal.decreases-loop-e
 decreases-loop-e l = length l.rest

@@ -8,7 +8,7 @@ use Rattle.book.proofs.Headers.{sound_book}
 use Rattle.update.specs.Plans.{plan_of}
 use Rattle.update.proofs.Answering.{ready, refuses_earlier, refuses_full, fill_room, accepts}
 use Rattle.slice_laws.proofs.Clauses.{both}
-use Rattle.update.proofs.apply_checked.Goals.{After-plan_of-plan, Else-m-header}
+use Rattle.update.proofs.apply_checked.Goals.{After-plan_of, Else-m-header}
 use Rattle.update.proofs.apply_checked.Goals as goal
 
 -- the notice is not received too early
@@ -16,12 +16,12 @@ in_time : (c : Else-m-header) → let a = c.args in received_of a.old.now ≤ a.
 in_time c = omega (arith, c.if-m-header.false, ap (λ (h : Header). h.received) c.header_of-header.ensures)
 
 -- the plan is that of the header's period and latest day
-planned : (c : After-plan_of-plan) →
+planned : (c : After-plan_of) →
     let a = c.args in
-    c.plan_of-plan.result ≡ plan_of a.m (period_of a.old.now) (latest_of a.old.now)
+    c.plan_of.result ≡ plan_of a.m (period_of a.old.now) (latest_of a.old.now)
 planned c =
     let h = c.header_of-header.ensures in
-    c.plan_of-plan.ensures
+    c.plan_of.ensures
     ∙ ap₂ (plan_of c.args.m) (ap (λ (x : Header). x.period) h) (ap (λ (x : Header). x.latest) h)
 
 pub returns-then-m-header : goal.returns-then-m-header
@@ -29,14 +29,14 @@ returns-then-m-header c =
     let p = c.requires in
     let h = ap (λ (x : Header). x.received) c.header_of-header.ensures in both (refuses_earlier _ _ _ _ p.0 p.1 p.2 refl (omega (arith, c.if-m-header.true, h)))
 
-pub plan_of-plan-requires : goal.plan_of-plan-requires
-plan_of-plan-requires c =
+pub plan_of-requires : goal.plan_of-requires
+plan_of-requires c =
     let p = c.requires in
     let h = ap (λ (x : Header). x.period) c.header_of-header.ensures in
     ((ready _ _ p.2).received_most, omega (arith, h, (sound_book _ p.0).header.period_most))
 
-pub has_room-requires : goal.has_room-requires
-has_room-requires c = (ready _ _ c.requires.2).lines_most
+pub invariant_of-book : goal.invariant_of-book
+invariant_of-book c = (ready _ _ c.requires.2).lines_most
 
 pub shape_of-new : goal.shape_of-new
 shape_of-new c = c.fill-done.auto.new
@@ -44,24 +44,22 @@ shape_of-new c = c.fill-done.auto.new
 pub returns-then-not-has_room : goal.returns-then-not-has_room
 returns-then-not-has_room c =
     let a = c.args in
-    let p = c.requires in both (refuses_full a.old.now a.notice.now a.m a.new.now p.0 p.1 p.2 (in_time (goal.at.returns-then-not-has_room c).Else-m-header) (planned (goal.at.returns-then-not-has_room c).After-plan_of-plan)
-    c.marks_for-marks.ensures c.has_room.ensures refl
+    let p = c.requires in both (refuses_full a.old.now a.notice.now a.m a.new.now p.0 p.1 p.2 (in_time (goal.at.returns-then-not-has_room c).Else-m-header) (planned (goal.at.returns-then-not-has_room c).After-plan_of)
+    c.mark_countries.ensures c.has_room.ensures refl
     (c.if-not-has_room.true))
 
 pub fill-done-requires : goal.fill-done-requires
 fill-done-requires c =
     let a = c.args in
-    let p = c.requires in (
-      (ready _ _ p.2).lines_most,
-      fill_room a.old.now a.notice.now a.m a.new.now p.0 p.1 p.2 (in_time (goal.at.fill-done-requires c).Else-m-header) (planned (goal.at.fill-done-requires c).After-plan_of-plan)
-          c.marks_for-marks.ensures c.has_room.ensures
-          (c.if-not-has_room.false),
-    )
+    let p = c.requires in
+    fill_room a.old.now a.notice.now a.m a.new.now p.0 p.1 p.2 (in_time (goal.at.fill-done-requires c).Else-m-header) (planned (goal.at.fill-done-requires c).After-plan_of)
+    c.mark_countries.ensures c.has_room.ensures
+    (c.if-not-has_room.false)
 
 pub returns : goal.returns
 returns c =
     let a = c.args in
     let p = c.requires in
-    let f = c.fill-done.ensures in both (accepts a.old.now a.notice.now a.m a.new.now p.0 p.1 p.2 (in_time (goal.at.returns c).Else-m-header) (planned (goal.at.returns c).After-plan_of-plan)
-    c.marks_for-marks.ensures c.has_room.ensures
+    let f = c.fill-done.ensures in both (accepts a.old.now a.notice.now a.m a.new.now p.0 p.1 p.2 (in_time (goal.at.returns c).Else-m-header) (planned (goal.at.returns c).After-plan_of)
+    c.mark_countries.ensures c.has_room.ensures
     (c.if-not-has_room.false) f.value.0 f.value.1 f.after)

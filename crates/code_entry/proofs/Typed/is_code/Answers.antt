@@ -16,7 +16,7 @@ returns-else-self-eq1 c =
 
 pub returns-in-2 : goal.returns-in-2
 returns-in-2 c =
-    rw (← c.self.view_is, c.is_ok.ensures.value, c.sent_code_key.ensures) (sent_law _ _ (omega arith) c.self.invariant)
+    rw (← c.self.view_is, c.is_two_digit_code.ensures, ← c.in-2.is) (sent_law _ _ (omega arith) c.self.invariant)
 
 pub returns-in-3-to-15 : goal.returns-in-3-to-15
 returns-in-3-to-15 c =
