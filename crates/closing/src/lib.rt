@@ -33,8 +33,8 @@ fn is_marked(marks: &[u8; 1000], country: u64) -> bool
 impl Closings<'_> {
     // Whether the notice closes a code that it does not list.
     #[tactic(auto, unfolding(crate::specs::Closings::closes_by))]
-    fn closes(self, key: u64) -> bool
-        ensures { result ≡ closes_by self.entry.plan self.entry.marks.now key }
+    fn closes(&self, key: u64) -> bool
+        ensures { result ≡ closes_by self.now.plan self.now.marks.now key }
     {
         let marks = self.marks;
         let country = country_code::country_of_key(key);
@@ -49,8 +49,8 @@ impl Closings<'_> {
     // The codes that it closes alike whatever their countries: all or none, where it is full or an update; else an empty
     // range, which no key is in, so that the first key asks for its own.
     #[tactic(auto, unfolding(crate::specs::Closings::closed_anyway))]
-    pub fn closed_anyway(self) -> ClosedRange
-        ensures { result ≡ closed_anyway self.entry.plan }
+    pub fn closed_anyway(&self) -> ClosedRange
+        ensures { result ≡ closed_anyway self.now.plan }
     {
         let (keys, closed) = match self.plan.kind {
             Kind::Full => (0..dial_code::KEYS_END, true),
@@ -62,8 +62,8 @@ impl Closings<'_> {
 
     // The codes with the first three places of one, which have its country.
     #[tactic(auto, unfolding(crate::specs::Closings::closed_range))]
-    pub fn closed_range(self, key: u64) -> ClosedRange
-        ensures { result ≡ closed_range self.entry.plan self.entry.marks.now key }
+    pub fn closed_range(&self, key: u64) -> ClosedRange
+        ensures { result ≡ closed_range self.now.plan self.now.marks.now key }
     {
         ClosedRange {
             keys: country_code::stretch_of(key),

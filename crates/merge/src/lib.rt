@@ -89,11 +89,11 @@ fn put_unlisted(
 // Passes the entries of keys below one, none of which the notice lists. Whether they are closed is worked out once for codes that
 // follow one another and are closed alike.
 #[tactic(auto, unfolding(merge_rule::specs::Passes::gap_below, merge_rule::specs::Passes::rest_from, book_words::specs::Layout::put_entries), using(book_words::proofs::Places::puts_append, closing::proofs::ClosingLaws::anyway_alike, closing::proofs::ClosingLaws::range_alike, closing::proofs::ClosingLaws::range_closed))]
-fn pass_unlisted<'a>(from: Place<'a>, below: u64, closings: Closings, new: &mut [u64]) -> Place<'a>
+fn pass_unlisted<'a>(from: Place<'a>, below: u64, closings: &Closings, new: &mut [u64]) -> Place<'a>
     requires { from.count + 2 * length from.rest ≤ most_merged }
     ensures rest { result.rest ≡ rest_from below from.entry.rest }
-    ensures count { result.count ≡ from.entry.count + length (gap_below below (closes_by closings.entry.plan closings.entry.marks.now) closings.entry.plan.closing from.entry.rest) }
-    ensures after { new.new ≡ put_entries new.old from.entry.count (gap_below below (closes_by closings.entry.plan closings.entry.marks.now) closings.entry.plan.closing from.entry.rest) }
+    ensures count { result.count ≡ from.entry.count + length (gap_below below (closes_by closings.now.plan closings.now.marks.now) closings.now.plan.closing from.entry.rest) }
+    ensures after { new.new ≡ put_entries new.old from.entry.count (gap_below below (closes_by closings.now.plan closings.now.marks.now) closings.now.plan.closing from.entry.rest) }
 {
     let Place {
         mut rest,
@@ -165,11 +165,11 @@ fn pass_listed<'a>(from: Place<'a>, change: Entry, new: &mut [u64]) -> Place<'a>
 
 // Passes the entries up to a line's code, and those of the code itself.
 #[tactic(auto, unfolding(merge_rule::specs::Passes::line_entries, merge_rule::specs::Passes::line_rest), using(book_words::proofs::Stores::puts_on, merge_rule::proofs::MergedLength::gap_length))]
-fn pass_line<'a>(from: Place<'a>, change: Entry, closings: Closings, new: &mut [u64]) -> Place<'a>
+fn pass_line<'a>(from: Place<'a>, change: Entry, closings: &Closings, new: &mut [u64]) -> Place<'a>
     requires { from.count + 2 * length from.rest ≤ most_merged }
     ensures rest { result.rest ≡ line_rest change from.entry.rest }
-    ensures count { result.count ≡ from.entry.count + length (line_entries change (closes_by closings.entry.plan closings.entry.marks.now) closings.entry.plan.closing from.entry.rest) }
-    ensures after { new.new ≡ put_entries new.old from.entry.count (line_entries change (closes_by closings.entry.plan closings.entry.marks.now) closings.entry.plan.closing from.entry.rest) }
+    ensures count { result.count ≡ from.entry.count + length (line_entries change (closes_by closings.now.plan closings.now.marks.now) closings.now.plan.closing from.entry.rest) }
+    ensures after { new.new ≡ put_entries new.old from.entry.count (line_entries change (closes_by closings.now.plan closings.now.marks.now) closings.now.plan.closing from.entry.rest) }
 {
     let to = pass_unlisted(from, change.key, closings, new);
     pass_listed(to, change, new)
@@ -182,11 +182,11 @@ pub fn merge(
     notice: &[u8],
     start: usize,
     lines: u64,
-    closings: Closings,
+    closings: &Closings,
     new: &mut [u64],
 ) -> Merged
-    ensures value { result ≡ merged_answer old.now closings.entry.plan closings.entry.marks.now notice.now start lines }
-    ensures after { new.new ≡ merged_leaves old.now closings.entry.plan closings.entry.marks.now notice.now start lines new.old }
+    ensures value { result ≡ merged_answer old.now closings.now.plan closings.now.marks.now notice.now start lines }
+    ensures after { new.new ≡ merged_leaves old.now closings.now.plan closings.now.marks.now notice.now start lines new.old }
 {
     let mut place = Place {
         rest: book::entries(old),

@@ -123,7 +123,7 @@ impl NewBook<'_, '_> {
             self.notice,
             self.header.start,
             self.header.lines,
-            self.closings,
+            &self.closings,
             new,
         )
     }

@@ -36,7 +36,7 @@ loop-line-init c =
 
 pub loop-line-preserved : goal.loop-line-preserved
 loop-line-preserved c =
-    let notice = c.args.closings in
+    let notice = c.args.closings.now in
     let i = c.loop-line.invariant in
     let next = c.in-Some.ensures.steps in
     let p = c.pass_line-place.ensures in

@@ -13,11 +13,11 @@ use Rattle.merge.proofs.pass_unlisted.Goals as goal
 
 -- what is remembered of codes closed alike, and whether the entry's is closed
 known : (c : Joined-not-contains) →
-    let notice = c.args.closings in
+    let notice = c.args.closings.now in
     ClosedAlike notice.plan notice.marks.now c.if-not-contains.alike
     × (c.if-not-contains.alike.closed ≡ closes_by notice.plan notice.marks.now c.in-Some.e.key)
 known c =
-    let notice = c.args.closings in
+    let notice = c.args.closings.now in
     elim c.if-not-contains.branch [
       | then-not-contains v ↦ rw (v.alike-is ∙ v.closed_range-alike.ensures) (range_alike notice.plan notice.marks.now _, range_closed notice.plan notice.marks.now _)
       | else-not-contains v ↦
@@ -28,7 +28,7 @@ known c =
 pub loop-e-preserved : goal.loop-e-preserved
 loop-e-preserved c =
     let below = c.args.below in
-    let notice = c.args.closings in
+    let notice = c.args.closings.now in
     let l = c.loop-e in
     let es = c.next.new.self in
     let next : l.rest ≡ c.in-Some.e ∷ es = search rules in
