@@ -44,7 +44,7 @@ fn fill(range: CodeRange, start: u64, keys: &mut [u64], at: usize)
     let weight = dial_code::weight_of(range.digits);
     let mut key = start;
     keys[at] = key;
-    // By place: after an adapter of `iter_mut` a proof knows the slice's length alone.
+    // By place: each key is told from the one before it.
     for i in 1..range.count {
         key += key_step(range.digits, range.first + (i - 1), weight);
         keys[at + i as usize] = key;
