@@ -4,7 +4,7 @@
 ghost use Rattle.std.specs.Prelude.{◌≡◌};
 ghost use Rattle.allowed_code.specs.Code.{is_code_key, is_code_key_after, sent_code_key};
 
-use dial_code::{FIRST_PLACE, KEYS_END, THIRD_PLACE};
+use dial_code::{Code, FIRST_PLACE, KEYS_END, THIRD_PLACE};
 use refusal::Refusal;
 
 // Whether a word is the key of an allowed code.
@@ -30,13 +30,14 @@ pub fn is_code_key_after(key: u64, word: u64) -> bool
     }
 }
 
-// The key of an allowed code sent as a count of digits and a value, or that one is outside its range, or that it is not allowed. A
-// number sent so (`dialled_number`) has another test and another refusal.
+// The key of an allowed code as it is sent, or that its count or its value is outside its range, or that it is not allowed. A
+// number sent so (`dialled_number`) has another test and another refusal. In line, since every line of a notice has a code.
+#[inline(always)]
 #[tactic(auto, using(crate::proofs::SentCodes::by_key))]
-pub fn sent_code_key(count: u64, value: u64) -> Result<u64, Refusal>
-    ensures { result ≡ sent_code_key count value }
+pub fn sent_code_key(code: Code) -> Result<u64, Refusal>
+    ensures { result ≡ sent_code_key code.count code.value }
 {
-    let key = dial_code::code_key(count, value)?;
+    let key = dial_code::code_key(code)?;
     // The first place holds the digit 0, or the digits are too few for a country.
     if key < 2 * FIRST_PLACE || country_code::country_of_key(key).is_none() {
         return Err(Refusal::CodeNotAllowed);

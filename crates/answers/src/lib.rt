@@ -74,7 +74,7 @@ pub struct RateBookCellEntry {
     pub rest: u64,
 }
 
-// The number of a refusal, 0 for none.
+// The number of a refusal, 0 for none, as a host in C gets it.
 pub fn number_or_zero(answer: Result<(), Refusal>) -> u64
     ensures { result ≡ number_or_zero answer }
 {

@@ -118,10 +118,7 @@ pub fn headed_count(words: &[u64]) -> usize
 pub fn entries(words: &[u64]) -> Entries
     ensures { result ≡ entries_from words.now header_words (headed_count words.now) }
 {
-    match counted(words) {
-        Some(count) => Entries::of(words, count),
-        None => Entries::of(words, 0),
-    }
+    Entries::of(words, headed_count(words))
 }
 
 // Whether a book is sound, in one pass over its words.

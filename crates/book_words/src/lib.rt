@@ -161,7 +161,7 @@ pub fn entry_at(words: &[u64], at: u32) -> Entry
 fn put_word(words: &mut [u64], at: usize, word: u64)
     ensures { words.new ≡ sets words.old at (word ∷ []) }
 {
-    // `get_mut` of a slice tells a proof the slice's length alone.
+    // By place: after a write through `get_mut` a proof knows the slice's length alone.
     if at < words.len() {
         words[at] = word;
     }
@@ -179,7 +179,7 @@ pub fn header_of(words: &[u64]) -> Header
     }
 }
 
-// Writes the header words, as far as there are words for them.
+// Writes the header words, as far as there are words for them: one by one, since a slice may be too short for an array.
 pub fn write_header(words: &mut [u64], h: Header)
     ensures { words.new ≡ sets words.old 0 (words_of_header h) }
 {

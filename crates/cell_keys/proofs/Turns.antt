@@ -1,16 +1,12 @@
 -- The turns of the loops over a range's keys: filling, counting, merging. Each keeps that what is left to do, done now, gives what
 -- is asked for. Assumes nothing.
--- Keys and values of a run fit a word.
+-- Keys of a run fit a word.
 use mathlib.Core.Path.{◌≡◌, ap, sym, subst, ◌∙◌}
-use mathlib.Core.Bool.{Bool, true, false}
 use mathlib.Core.List.{List, [], ◌∷◌, ◌++◌}
 use Prim.Native.Nat.{ℕ, suc, ◌+◌, ◌-◌, ◌^◌, ◌≤◌, ◌<◌}
-use native.Mathlib.Nat.{pow-le-pow_right}
 use native.Mathlib.Omega.{arith}
 use native.Mathlib.Numerals.{add-one}
-use Rattle.std.specs.Int.{from_bool}
-use lib.Dec.{eqb, lit<}
-use lib.ListN.{length, get_or, take, set, length-set}
+use lib.ListN.{length, get_or, take, drop, set, length-set}
 use lib.Seq.{sets, take-set-le, length-take-le}
 use Rattle.dial_code.specs.Key.{key}
 use Rattle.dial_code.proofs.CountedKeys.{sent_below}
@@ -18,7 +14,10 @@ use Rattle.code_cell.specs.Cell.{insert_all}
 use Rattle.code_cell.specs.Rising.{Rising}
 use Rattle.code_cell.proofs.Inserts.{length_last}
 use Rattle.code_entry.specs.Range.{keys_from}
-use Rattle.code_cell.proofs.RangeKeys.{first_key_law, no_keys, length_keys}
+use Rattle.code_cell.proofs.RangeKeys.{first_key_law, last_key_law, length_keys}
+use Rattle.std.proofs.lemmas.List.{take_more_set, take_all, length-drop}
+use Rattle.slice_laws.proofs.Slices.{written_over}
+use borrow.Rule.Slice.PartMut.{put_mid}
 use Rattle.cell_keys.specs.Writing.{key_at, Run}
 use Rattle.cell_keys.proofs.Merges.{together, same, old_last, new_last, only_new, only_old, longer, sets_last, sets_own}
 
@@ -26,40 +25,43 @@ pub key_most : (d v : ℕ) → d ≤ 15 → key_at d v < 11 ^ 15
 unfolding key
 key_most d v h = sent_below d v h
 
-pub value_most : (d v n : ℕ) → Run d v n → v + n ≤ 10 ^ 15
-value_most d v n r =
-    let p : 10 ^ d ≤ 10 ^ 15 = pow-le-pow_right (lit< tt) {i = d} {j = 15} r.1 in
-    omega (arith, r.3)
-
 split : (d v left : ℕ) → 1 ≤ left → keys_from d v left ≡ key_at d v ∷ keys_from d (v + 1) (left - 1)
 split d v left h =
     let g : suc (left - 1) ≡ left = omega arith in
     rw g at (first_key_law d v (left - 1))
 
--- A run's keys written from a place on, the first i of them: the others are still to be.
-module _ (d f n at : ℕ) (l₀ : List ℕ) where
-  abbrev pub Filled : ℕ → List ℕ → Type 0
-  Filled i l = (length l ≡ length l₀) × (sets l (at + i) (keys_from d (f + i) (n - i)) ≡ sets l₀ at (keys_from d f n))
+-- A run's keys written over a part of a slice: the first i of them, and one more.
+pub fill_turn :
+    (d v i : ℕ) (p : List ℕ)
+    → i < length p
+    → take i p ≡ keys_from d v i
+    → take (i + 1) (set p i (key_at d (v + i))) ≡ keys_from d v (i + 1)
+fill_turn d v i p h e =
+    let s : i + 1 ≡ suc i = omega arith in
+    take_more_set p i (key_at d (v + i)) h
+    ∙ ap (λ (l : List ℕ). l ++ (key_at d (v + i) ∷ [])) e
+    ∙ sym (rw s (last_key_law d v i))
 
-  pub fill_first : 1 ≤ n → Filled 1 (set l₀ at (key_at d f))
-  fill_first h = (
-    length-set l₀ at (key_at d f),
-    ap (λ (j : ℕ). sets (set l₀ at (key_at d f)) j (keys_from d (f + 1) (n - 1))) (add-one at) ∙ ap (sets l₀ at) (sym (split d f n h)),
-  )
+-- The part after a run's first key.
+pub rest_long : (n at x : ℕ) (l : List ℕ) → 1 ≤ n → at + n ≤ length l → length (take (at + n - (at + 1)) (drop (at + 1) (set l at x))) ≡ n - 1
+rest_long n at x l h r =
+    let t : length (drop (at + 1) (set l at x)) ≡ length l - (at + 1) = length-drop (at + 1) (set l at x) ∙ ap (λ (k : ℕ). k - (at + 1)) (length-set l at x) in
+    length-take-le (at + n - (at + 1)) (drop (at + 1) (set l at x)) (omega (arith, t)) ∙ omega arith
 
-  pub fill_turn : (i : ℕ) (l : List ℕ) → i < n → Filled i l → Filled (i + 1) (set l (at + i) (key_at d (f + i)))
-  fill_turn i l h c =
-      let e : at + (i + 1) ≡ suc (at + i) = omega arith in
-      let v : f + (i + 1) ≡ f + i + 1 = omega arith in
-      let m : n - (i + 1) ≡ n - i - 1 = omega arith in (
-        length-set l (at + i) (key_at d (f + i)) ∙ c.0,
-        rw (e, v, m) (ap (sets l (at + i)) (sym (split d (f + i) (n - i) (omega arith))) ∙ c.1),
-      )
-
-  pub fill_end : (i : ℕ) (l : List ℕ) → n ≤ i → Filled i l → l ≡ sets l₀ at (keys_from d f n)
-  fill_end i l h c =
-      let z : n - i ≡ 0 = omega arith in
-      rw (z, no_keys d (f + i)) at c.1
+-- All of them are written: the first at its place, the others over the part after it.
+pub fill_end :
+    (d f n at : ℕ) (l p : List ℕ)
+    → 1 ≤ n
+    → at + n ≤ length l
+    → length p ≡ n - 1
+    → take (n - 1) p ≡ keys_from d (f + 1) (n - 1)
+    → put_mid (at + 1) (at + n - (at + 1)) (set l at (key_at d f)) p ≡ sets l at (keys_from d f n)
+fill_end d f n at l p h r m e =
+    let w : p ≡ keys_from d (f + 1) (n - 1) = sym (take_all (n - 1) p (omega arith)) ∙ e in
+    written_over (at + 1) (at + n - (at + 1)) (set l at (key_at d f)) p (omega (arith, m)) (omega (arith, length-set l at (key_at d f)))
+    ∙ ap (sets (set l at (key_at d f)) (at + 1)) w
+    ∙ ap (λ (j : ℕ). sets (set l at (key_at d f)) j (keys_from d (f + 1) (n - 1))) (add-one at)
+    ∙ ap (sets l at) (sym (split d f n h))
 
 -- A run's keys and a slice's counted together: c of them are counted, p words and q codes are left.
 pub record Counts (d f n old : ℕ) (l : List ℕ) (k q p c : ℕ) : Type 0 where
@@ -80,13 +82,6 @@ pub step_back :
 step_back d f q k s e z g =
     let b : f + (q - 1 - 1) + 1 ≡ f + (q - 1) = omega arith in
     e ∙ sym (rw b at g)
-
-pub same_few : (x k t : ℕ) → t ≡ same x k → t ≤ 1
-same_few x k t e = go (eqb x k) e
-  where
-    go : (b : Bool) → t ≡ from_bool b → t ≤ 1
-    go true g = omega arith
-    go false g = omega arith
 
 module _ (d f n old : ℕ) (l : List ℕ) (k q p c x : ℕ) (i : Counts d f n old l k q p c) (h : 0 < p) (m : old ≤ length l) (e : x ≡ get_or l (p - 1) 0) where
   pub count_old : k < x → Counts d f n old l k q (p - 1) (c + 1)

@@ -44,10 +44,10 @@ fn fill(range: CodeRange, start: u64, keys: &mut [u64], at: usize)
     let weight = dial_code::weight_of(range.digits);
     let mut key = start;
     keys[at] = key;
-    // By place: each key is told from the one before it.
-    for i in 1..range.count {
-        key += key_step(range.digits, range.first + (i - 1), weight);
-        keys[at + i as usize] = key;
+    let places = &mut keys[at + 1..at + range.count as usize];
+    for (i, place) in places.iter_mut().enumerate() {
+        key += key_step(range.digits, range.first + i as u64, weight);
+        *place = key;
     }
 }
 

@@ -4,6 +4,7 @@
 ghost use Rattle.std.specs.Prelude.{◌≡◌};
 ghost use Rattle.closing.specs.Closings.{is_marked, closes_by, closed_anyway, closed_range};
 
+use country_code::Marks;
 use effect::Plan;
 use notice_header::Kind;
 use std::ops::Range;
@@ -15,19 +16,33 @@ pub struct ClosedRange {
     pub closed: bool,
 }
 
-// What a notice asks of the codes that it does not list: its plan, and the marks of a partial notice's countries. Document 01
-// names their form: an array of 1,000 marks, 0 or 1, by country value.
+// The codes that a notice closes alike whatever their countries: all or none, where it is full or an update; else an empty range,
+// which no key is in, so that the first key asks for its own.
+#[tactic(auto, unfolding(crate::specs::Closings::closed_anyway))]
+pub fn closed_anyway(plan: Plan) -> ClosedRange
+    ensures { result ≡ closed_anyway plan }
+{
+    let (keys, closed) = match plan.kind {
+        Kind::Full => (0..dial_code::KEYS_END, true),
+        Kind::Update => (0..dial_code::KEYS_END, false),
+        Kind::Partial | Kind::Replacement(_) => (0..0, false),
+    };
+    ClosedRange { keys, closed }
+}
+
+// What a notice asks of the codes that it does not list: its plan, and the marks of a partial notice's countries.
 #[derive(Clone, Copy)]
 pub struct Closings<'a> {
     pub plan: Plan,
-    pub marks: &'a [u8; 1000],
+    pub marks: &'a Marks,
 }
 
+// Whether a country is marked.
 #[tactic(auto, unfolding(crate::specs::Closings::is_marked))]
-fn is_marked(marks: &[u8; 1000], country: u64) -> bool
+fn is_marked(marks: &Marks, country: u64) -> bool
     ensures { result ≡ is_marked marks.now country }
 {
-    country < 1000 && marks[country as usize] == 1
+    marks.get(country as usize).is_some_and(|&mark| mark == 1)
 }
 
 impl Closings<'_> {
@@ -44,20 +59,6 @@ impl Closings<'_> {
             Kind::Update => false,
             Kind::Replacement(named) => country == Some(named),
         }
-    }
-
-    // The codes that it closes alike whatever their countries: all or none, where it is full or an update; else an empty
-    // range, which no key is in, so that the first key asks for its own.
-    #[tactic(auto, unfolding(crate::specs::Closings::closed_anyway))]
-    pub fn closed_anyway(&self) -> ClosedRange
-        ensures { result ≡ closed_anyway self.now.plan }
-    {
-        let (keys, closed) = match self.plan.kind {
-            Kind::Full => (0..dial_code::KEYS_END, true),
-            Kind::Update => (0..dial_code::KEYS_END, false),
-            Kind::Partial | Kind::Replacement(_) => (0..0, false),
-        };
-        ClosedRange { keys, closed }
     }
 
     // The codes with the first three places of one, which have its country.

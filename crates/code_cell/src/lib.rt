@@ -102,7 +102,8 @@ struct Survey {
     bound: u64,
 }
 
-// Whether ranges rise or fall, with the last and the first key of the last of them.
+// Whether ranges rise or fall, with the last and the first key of the last of them. `Option`s would be no plainer: at the first range
+// there is no bound yet, which each test would have to ask.
 #[derive(Clone, Copy)]
 struct Order {
     rises: bool,
@@ -187,7 +188,8 @@ fn look_over(entries: Entries, room: usize) -> Survey
     }
 }
 
-// Of the stretch found so far and that of a range, the one that starts first from a number on.
+// Of the stretch found so far and that of a range, the one that starts first from a number on. None yet is the empty stretch at the
+// end, before which any other starts, so that the one comparison of starts serves, as in the rule (`closest`).
 #[tactic(auto, unfolding(crate::specs::Count::closer))]
 fn closer(from: u64, found: Range<u64>, range: CodeRange) -> Range<u64>
     ensures { result ≡ closer from found range }
@@ -219,7 +221,7 @@ fn fits(entries: Entries, room: usize) -> bool
 {
     let mut from: u64 = 0;
     let mut left = room as u64;
-    // Each search starts where the stretch before ended: no iterator gives that.
+    // Each search starts where the stretch before ended. A `for` over `std::iter::successors` was tried: it is not proved to end.
     while let Some(next) = next_stretch(entries, from) {
         let codes = next.end - next.start;
         if left < codes {
@@ -243,7 +245,8 @@ fn is_ordered(entries: Entries) -> bool
     order.rises || order.falls
 }
 
-// Whether the country's own code can be used, with so much room: what writes it (`cell_keys`) asks the same before it does.
+// Whether the country's own code can be used, with so much room. What writes it (`cell_keys`) asks the same again: no plainer as
+// one, since this one is lent no keys to write to.
 #[tactic(auto, using(crate::proofs::Refusals::own_not, crate::proofs::Refusals::own_full, crate::proofs::Refusals::own_fits))]
 fn check_own(country: &[u8], room: usize) -> Result<(), Refusal>
     ensures { result ≡ checked (own_keys country.now room) }

@@ -9,7 +9,7 @@ ghost use Rattle.code_entry.specs.Range.{range_of, codes_from, first_key, last_k
 ghost use Rattle.code_entry.specs.Entry.{is_blank, dash, all_codes, code_range, read_entry, own_code};
 ghost use Rattle.code_entry.specs.Scan.{code_with, digits_of, pushed, run_of, is_end, country_digits, typed_code, entry_end, typed_range};
 
-use dial_code::MOST_DIGITS;
+use dial_code::{Code, MOST_DIGITS};
 use refusal::{Read, Refusal};
 use std::marker::Model;
 
@@ -37,20 +37,28 @@ impl Model for CodeRange {
 }
 
 impl CodeRange {
-    // The key of the first code. By the invariant there is one: 0 is never given.
-    #[tactic(auto, using(dial_code::proofs::CountedKeys::or_zero, dial_code::proofs::CountedKeys::key_so))]
+    // The key of the first code. By the invariant there is one.
+    #[tactic(auto, using(dial_code::proofs::CountedKeys::sent), unfolding(dial_code::specs::Key::key))]
     pub fn first_key(self) -> u64
         ensures { result ≡ first_key self }
     {
-        dial_code::code_key(self.digits, self.first).unwrap_or(0)
+        let code = Code {
+            count: self.digits,
+            value: self.first,
+        };
+        dial_code::code_key(code).unwrap()
     }
 
     // The key of the last code, likewise.
-    #[tactic(auto, using(dial_code::proofs::CountedKeys::or_zero, dial_code::proofs::CountedKeys::key_so))]
+    #[tactic(auto, using(dial_code::proofs::CountedKeys::sent), unfolding(dial_code::specs::Key::key))]
     pub fn last_key(self) -> u64
         ensures { result ≡ last_key self }
     {
-        dial_code::code_key(self.digits, self.first + (self.count - 1)).unwrap_or(0)
+        let code = Code {
+            count: self.digits,
+            value: self.first + (self.count - 1),
+        };
+        dial_code::code_key(code).unwrap()
     }
 }
 
@@ -80,7 +88,7 @@ impl Model for Typed {
 fn is_two_digit_code(value: u64) -> bool
     ensures { result ≡ is_ok (sent_code_key 2 value) }
 {
-    allowed_code::sent_code_key(2, value).is_ok()
+    allowed_code::sent_code_key(Code { count: 2, value }).is_ok()
 }
 
 impl Typed {
@@ -214,10 +222,11 @@ fn are_codes(first: Typed, count: u64) -> bool
     ensures { result ≡ all_codes (codes_from first.count first.value count) }
 {
     2 < first.count
-        || (first.value..first.value + count).all(|value| allowed_code::sent_code_key(
-            first.count,
+        || (first.value..first.value + count).all(|value| allowed_code::sent_code_key(Code {
+            count: first.count,
             value,
-        ).is_ok())
+        })
+        .is_ok())
 }
 
 // The range between two allowed codes.

@@ -6,16 +6,17 @@ ghost use Rattle.country_code.specs.CountryCode.{country_of_key};
 ghost use Rattle.notice.specs.Lines.{lines_at};
 ghost use Rattle.country_marks.specs.Marks.{marked, marks_of, marks_for};
 
+use country_code::{Marks, VALUES_END};
 use notice::Lines;
 use notice_header::{Header, Kind};
 
-// Marks the country of a key, in the form that document 01 names: an array of 1,000 marks, 0 or 1, by country value.
+// Marks the country of a key. The test is by hand: after a write through `get_mut` a proof does not know the marks.
 #[tactic(auto, using(crate::proofs::Marking::marks_past))]
-fn mark(marks: &mut [u8; 1000], key: u64)
+fn mark(marks: &mut Marks, key: u64)
     ensures { marks.new ≡ marked (country_of_key key) marks.old }
 {
     if let Some(country) = country_code::country_of_key(key) {
-        if country < 1000 {
+        if country < VALUES_END as u64 {
             marks[country as usize] = 1;
         }
     }
@@ -23,7 +24,7 @@ fn mark(marks: &mut [u8; 1000], key: u64)
 
 // Marks the countries of lines.
 #[tactic(auto, unfolding(crate::specs::Marks::marks_of))]
-fn mark_lines(lines: Lines, marks: &mut [u8; 1000])
+fn mark_lines(lines: Lines, marks: &mut Marks)
     ensures { marks.new ≡ marks_of marks.old lines.entry }
 {
     for line in lines {
@@ -31,11 +32,10 @@ fn mark_lines(lines: Lines, marks: &mut [u8; 1000])
     }
 }
 
-// For a partial notice the countries named are first noted in a table of 1,000 marks, one for each value from 0 to 999; for another
-// notice none. Document 01 names this form: an array of 1,000 marks, 0 or 1, by country value. It is lent, since a copy of an answer
-// would want `memcpy`, which a host may not have.
+// For a partial notice the countries named are first noted in the marks; for another notice none. They are lent, since a copy of an
+// answer would want `memcpy`, which a host may not have.
 #[tactic(auto, unfolding(crate::specs::Marks::marks_for))]
-pub fn mark_countries(notice: &[u8], header: Header, marks: &mut [u8; 1000])
+pub fn mark_countries(notice: &[u8], header: Header, marks: &mut Marks)
     ensures { marks.new ≡ marks_for header.kind (lines_at header.lines notice.now header.start) }
 {
     marks.fill(0);

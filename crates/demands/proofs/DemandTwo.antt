@@ -97,8 +97,8 @@ batch_outcome = batches.outcome
 -- A call's row is the call rated by itself, and stands in its own stretch of the rows.
 pub row_alone :
     (ws : List ℕ) (c : CallRecord)
-    → is_written c.count c.value ≡ true
-    → row_of ws c ≡ rate_call ws (dialled_as c.count c.value) (record { 0 = c.moment }) c.duration
+    → is_written c.number.count c.number.value ≡ true
+    → row_of ws c ≡ rate_call ws (dialled_as c.number.count c.number.value) (record { 0 = c.moment }) c.duration
 row_alone = batches.row_alone
 
 pub row_in :

@@ -10,10 +10,9 @@ use borrow.Author.Tests.{lt-leb, le-leb, lt-ltb, le-ltb}
 use lib.Dec.{lit<}
 use lib.ListN.{length}
 use Rattle.dial_code.specs.Digits.{digits}
-use Rattle.dial_code.specs.Key.{key_from, key, code_key, key_or_zero}
+use Rattle.dial_code.specs.Key.{key_from, key, code_key}
 use Rattle.dial_code.proofs.DigitLaws.{ten, length_digits, digits_last, digits_are}
 use Rattle.dial_code.proofs.KeyLaws.{key_below, below_end}
-use Rattle.std.specs.Result.{result_unwrap_or}
 use Rattle.refusal.specs.declared.Refusal.TheVariants.{OutOfRange}
 use Rattle.std.proofs.Common.{Ok, Err}
 
@@ -75,15 +74,6 @@ module _ (count v : ℕ) where
   pub sent : 0 < count → count ≤ 15 → v < 10 ^ count → code_key count v ≡ Ok (key_from 1 (digits count v))
   unfolding code_key
   sent p h l = rw (le-leb 1 count p, le-leb count 15 h, lt-ltb v (10 ^ count) l)
-
-  -- The key, or 0, by whether there is one.
-  pub key_so : 0 < count → count ≤ 15 → v < 10 ^ count → key_or_zero count v ≡ key (digits count v)
-  unfolding key_or_zero key
-  key_so p h l = rw (sent p h l)
-
-  pub or_zero : result_unwrap_or (code_key count v) 0 ≡ key_or_zero count v
-  unfolding key_or_zero
-  or_zero = refl
 
 -- What code_key has weighed after n turns of its loop: the last n digits.
 pub record Weighed (count v n key weight rest : ℕ) : Type 0 where

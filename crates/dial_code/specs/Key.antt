@@ -1,6 +1,5 @@
 -- Keys (document 01, "Codes and countries").
 use Rattle.std.specs.Prelude.{◌≡◌, refl, Bool, true, false, cond, List, [], ◌∷◌, ℕ, zero, suc, ◌+◌, ◌-◌, ◌*◌, ◌/◌, ◌%◌, ◌^◌, eqb, ltb, length, Result, Ok, Err}
-use Rattle.std.specs.Result.{result_unwrap_or}
 use Rattle.dial_code.specs.Digits.{most_digits, digits, value, is_written}
 use Rattle.dial_code.specs.declared.Code.{Code}
 use Rattle.refusal.specs.declared.Refusal.TheVariants.{OutOfRange}
@@ -52,11 +51,6 @@ code_of w = record { count = length (digits_of_key w); value = value (digits_of_
 unfoldable pub code_key : ℕ → ℕ → Result ℕ Refusal
 unfolding key digits is_written
 code_key count v = cond (is_written count v) (Ok (key (digits count v))) (Err OutOfRange)
-
--- The same, or 0, which is no key.
-unfoldable pub key_or_zero : ℕ → ℕ → ℕ
-unfolding code_key
-key_or_zero count v = result_unwrap_or (code_key count v) 0
 
 -- The key of a key's first n digits: the key less its remainder by 11^(15 − n).
 unfoldable pub prefix_key : ℕ → ℕ → ℕ
@@ -121,11 +115,6 @@ code_keys :
     ≡ Ok 759499667166482 ∷ Err OutOfRange ∷ Err OutOfRange ∷ Err OutOfRange ∷ Ok (key (0 ∷ 1 ∷ [])) ∷ []
 unfolding code_key
 code_keys = refl
-
--- code 1, a count of 0, a value too large for its count
-keys_or_zero : key_or_zero 1 1 ∷ key_or_zero 0 0 ∷ key_or_zero 2 100 ∷ [] ≡ 759499667166482 ∷ 0 ∷ 0 ∷ []
-unfolding key_or_zero
-keys_or_zero = refl
 
 -- the first two digits of 234, all three, none
 prefixes :

@@ -20,7 +20,7 @@ const THREE_PLACES: u64 = 1_331;
 
 pub const FIRST_OF_THREE: u64 = 121;
 
-// A code as it is sent: how many digits it has, and their value.
+// A code or number as it is sent: how many digits it has, and their value. Any two numbers.
 #[derive(Clone, Copy, PartialEq, Eq)]
 pub struct Code {
     pub count: u64,
@@ -77,11 +77,12 @@ pub fn ten_to(n: u64) -> u64
     }
 }
 
-// The key of a code sent as a count of digits and a value, or that one is outside its range: any two numbers, and so no `Code` yet.
+// The key of a code as it is sent, or that its count or its value is outside its range.
 #[tactic(auto, using(crate::proofs::CountedKeys::weighing))]
-pub fn code_key(count: u64, value: u64) -> Result<u64, Refusal>
-    ensures { result ≡ code_key count value }
+pub fn code_key(code: Code) -> Result<u64, Refusal>
+    ensures { result ≡ code_key code.count code.value }
 {
+    let Code { count, value } = code;
     if count == 0 || MOST_DIGITS < count {
         return Err(Refusal::OutOfRange);
     }

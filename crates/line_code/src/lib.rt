@@ -6,15 +6,17 @@ ghost use Rattle.dial_code.specs.Digits.{most_digits};
 ghost use Rattle.line_code.specs.CodeRule.{code_field, read_code};
 
 use country_code::country_of_key;
+use dial_code::Code;
 use refusal::{Read, Refusal};
 
-// A code's value field, against the key of the line before and the country that a replacement names.
+// A code's value field, against the key of the line before and the country that a replacement names. `before` is 0 at the first
+// line: an `Option` would be no plainer, since 0 lies below every key, so that the one test serves.
 #[tactic(auto, using(crate::proofs::Codes::code_steps))]
-fn code_field(named: Option<u64>, before: u64, count: u64, value: u64, end: usize) -> Read<u64>
-    requires { (1 ≤ count) × (count ≤ most_digits) }
-    ensures { result ≡ code_field named before count value end }
+fn code_field(named: Option<u64>, before: u64, code: Code, end: usize) -> Read<u64>
+    requires { (1 ≤ code.count) × (code.count ≤ most_digits) }
+    ensures { result ≡ code_field named before code.count code.value end }
 {
-    let key = allowed_code::sent_code_key(count, value)?;
+    let key = allowed_code::sent_code_key(code)?;
     if key <= before {
         return Err(Refusal::KeysNotRising);
     }
@@ -32,5 +34,5 @@ pub fn read_code(named: Option<u64>, before: u64, s: &[u8], at: usize) -> Read<u
 {
     let (count, next) = varint::read_ranged(s, at, 1, dial_code::MOST_DIGITS)?;
     let (value, end) = varint::read_number(s, next)?;
-    code_field(named, before, count, value, end)
+    code_field(named, before, Code { count, value }, end)
 }

@@ -3,6 +3,8 @@
 
 ghost use Rattle.std.specs.Prelude.{◌≡◌, ◌+◌, ◌≤◌, leb, length, MatchResult, Ok};
 ghost use Rattle.std.proofs.lemmas.List.Edits.{sets};
+ghost use Rattle.notice_header.specs.HeaderRule.{kind_number};
+ghost use Rattle.notice_header.specs.declared.Kind.TheVariants.{Full};
 ghost use Rattle.line_writing.specs.LineLayout.{encode_lines};
 ghost use Rattle.book_words.specs.Layout.{entries_of};
 ghost use Rattle.standing.specs.Pass.{lines_by};
@@ -10,6 +12,7 @@ ghost use Rattle.listing.specs.List.{standing_lines, list_of, check_list, list_a
 
 use calendar::Day;
 use notice_header::Kind;
+use notice_writing::Fields;
 use refusal::Refusal;
 use standing::Lines;
 
@@ -57,17 +60,23 @@ impl<'a> StandingList<'a> {
         Ok(StandingList { words, day, lines })
     }
 
-    // The fields before the lines are sized here, and written below: a call each.
+    // The fields before its lines.
+    fn header(&self) -> Fields
+        ensures { result ≡ record { kind = kind_number Full; received = self.now.day.0; country = 0; lines = self.now.lines } }
+    {
+        Fields {
+            kind: u64::from(Kind::Full),
+            received: self.day.0,
+            country: 0,
+            lines: self.lines as u64,
+        }
+    }
+
     // Whether so many bytes hold it. Its lines' sizes are added up only where lines of the largest size would not fit.
     fn fits(&self, room: usize) -> bool
         ensures { result ≡ leb (length (list_of self.now.words.now self.now.day)) room }
     {
-        let header = notice_writing::header_size(
-            u64::from(Kind::Full),
-            self.day.0,
-            0,
-            self.lines as u64,
-        ).unwrap();
+        let header = notice_writing::header_size(self.header()).unwrap();
         header + self.lines * MOST_LINE <= room
             || header + standing::lines_size(self.words, self.day.0) <= room
     }
@@ -78,15 +87,7 @@ impl<'a> StandingList<'a> {
         ensures value { result ≡ length (list_of self.now.words.now self.now.day) }
         ensures after { out.new ≡ sets out.old 0 (list_of self.now.words.now self.now.day) }
     {
-        let at = notice_writing::write_header(
-            out,
-            0,
-            u64::from(Kind::Full),
-            self.day.0,
-            0,
-            self.lines as u64,
-        )
-        .unwrap();
+        let at = notice_writing::write_header(out, 0, self.header()).unwrap();
         write_lines(self.words, self.day.0, out, at)
     }
 }

@@ -29,17 +29,14 @@ struct Place<'a> {
 }
 
 // Puts an entry into the new book after so many, where there are words for all of it.
-#[tactic(auto, using(book_words::proofs::Places::one_stored), unfolding(book_words::specs::Layout::put_entries, book_words::specs::Layout::put_entry))]
+#[tactic(auto, using(slice_laws::proofs::Slices::written_over, book_words::proofs::Places::one_stored), unfolding(book_words::specs::Layout::put_entries, book_words::specs::Layout::put_entry))]
 fn put(new: &mut [u64], count: usize, e: Entry)
     requires { count ≤ most_merged }
     ensures { new.new ≡ put_entries new.old count (e ∷ []) }
 {
     let at = book_words::HEADER_WORDS + count * book_words::ENTRY_WORDS;
     if at + book_words::ENTRY_WORDS <= new.len() {
-        // `copy_from_slice` from an array of the three is slower: it asks whether the two overlap.
-        new[at] = e.key;
-        new[at + book_words::DAY_WORD] = e.day;
-        new[at + book_words::OFFER_WORD] = e.offer;
+        new[at..at + book_words::ENTRY_WORDS].copy_from_slice(&[e.key, e.day, e.offer]);
     }
 }
 
@@ -52,7 +49,8 @@ fn goes_on(rest: &Entries, e: Entry, day: u64) -> bool
 }
 
 // Puts what stays of an entry whose code the notice does not list, before the entries after it. Answers how many entries the new
-// book then has. Closed is the word 0 here: words of a book, which may be any, are compared and put as they stand.
+// book then has. Closed is the word 0 here: words of a book, which may be any, are compared and put as they stand. The day is the
+// notice's, for all that it closes: as an `Option` it would be wrapped for each entry.
 #[tactic(auto, unfolding(merge_rule::specs::Passes::unlisted_as, merge_rule::specs::Passes::closed_one, book_words::specs::Layout::put_entries))]
 fn put_unlisted(
     e: Entry,
@@ -100,7 +98,7 @@ fn pass_unlisted<'a>(from: Place<'a>, below: u64, closings: &Closings, new: &mut
         mut count,
     } = from;
     let day = closings.plan.closing;
-    let mut alike = closings.closed_anyway();
+    let mut alike = closing::closed_anyway(closings.plan);
     // No `for`: it stops before an entry that it leaves to the next pass.
     while let Some(e) = rest.peek() {
         if below <= e.key {
@@ -115,7 +113,8 @@ fn pass_unlisted<'a>(from: Place<'a>, below: u64, closings: &Closings, new: &mut
     Place { rest, count }
 }
 
-// Keeps the entries of a listed code that stand before its line's effective day. Answers the code's status after them as well.
+// Keeps the entries of a listed code that stand before its line's effective day. Answers the code's status after them as well: a
+// book's word, 0 where none stood, as the rule has it of any words.
 #[tactic(auto, unfolding(merge_rule::specs::Passes::kept_of, merge_rule::specs::Passes::status_of, merge_rule::specs::Passes::rest_after, book_words::specs::Layout::put_entries))]
 fn keep_listed<'a>(from: Place<'a>, change: Entry, new: &mut [u64]) -> (Place<'a>, u64)
     requires { from.count + 2 * length from.rest ≤ most_merged }

@@ -7,6 +7,7 @@ ghost use Rattle.notice_header.specs.Placed.{placed};
 
 use calendar::Day;
 use country_code::country_of_key;
+use dial_code::Code;
 use refusal::Refusal;
 use varint_reader::Reader;
 
@@ -73,14 +74,15 @@ fn read_country(reader: &mut Reader<'_>) -> Result<u64, Refusal>
 {
     let (count, _) = varint::in_range(reader.next(), 1, dial_code::MOST_DIGITS)?;
     let (value, _) = reader.next()?;
-    let key = allowed_code::sent_code_key(count, value)?;
+    let key = allowed_code::sent_code_key(Code { count, value })?;
     if country_of_key(key) != Some(value) {
         return Err(Refusal::CodeNotAllowed);
     }
     Ok(value)
 }
 
-// The kind of a number from 1 to 4. Only a replacement has fields of its own.
+// The kind of a number from 1 to 4, as it is sent: only a replacement has fields of its own, which come after the received day, so
+// that no `Kind` can be made before.
 #[tactic(auto, unfolding(crate::specs::HeaderRule::read_kind))]
 fn read_kind(number: u64, reader: &mut Reader<'_>) -> Result<Kind, Refusal>
     ensures kind { placed result reader.new.at ≡ read_kind number reader.old.src.now reader.old.at }

@@ -18,7 +18,7 @@ pub struct Line {
 }
 
 impl Line {
-    // The listed day, 0 where the line lists none.
+    // The listed day, 0 where the line lists none: no received day is before that, so that the later of the two needs no case.
     pub fn listed_day(self) -> u64
         ensures { result ≡ listed_day self.listed }
     {

@@ -22,20 +22,28 @@ fn country_count(country: u64) -> u64
     }
 }
 
-// The fields before the lines, lent to what sizes or writes them: by `&mut`, so that its caller knows what it wrote. They are any
-// numbers, as sent, since a `Kind` would ask more of callers. `country` is the value of a replacement's country, and is not sent
-// for another kind.
+// The fields before the lines, as they are sent: any numbers, since a `Kind` would ask more of callers. `country` is the value of a
+// replacement's country, and is not sent for another kind.
+#[derive(Clone, Copy, PartialEq, Eq)]
+pub struct Fields {
+    pub kind: u64,
+    pub received: u64,
+    pub country: u64,
+    pub lines: u64,
+}
+
+// The fields' numbers, lent to what sizes or writes them: by `&mut`, so that its caller knows what it wrote.
 #[tactic(auto, unfolding(crate::specs::Layout::header_fields))]
-fn with_fields<R, F: FnMut(&[u64]) -> R>(
-    kind: u64,
-    received: u64,
-    country: u64,
-    lines: u64,
-    f: &mut F,
-) -> R
+fn with_fields<R, F: FnMut(&[u64]) -> R>(fields: Fields, f: &mut F) -> R
     requires { F.IsAlwaysCallable f.old }
-    ensures { CalledAt F.FnMut f.old (header_fields kind received country lines) result f.new }
+    ensures { CalledAt F.FnMut f.old (header_fields fields.kind fields.received fields.country fields.lines) result f.new }
 {
+    let Fields {
+        kind,
+        received,
+        country,
+        lines,
+    } = fields;
     if kind == u64::from(Kind::Replacement(country)) {
         return f(&[kind, received, country_count(country), country, lines]);
     }
@@ -43,29 +51,16 @@ fn with_fields<R, F: FnMut(&[u64]) -> R>(
 }
 
 // How many bytes the fields before the lines take; None where one is too large to have an encoding.
-pub fn header_size(kind: u64, received: u64, country: u64, lines: u64) -> Option<usize>
-    ensures { result ≡ sizes_if_encodable (header_fields kind received country lines) }
+pub fn header_size(fields: Fields) -> Option<usize>
+    ensures { result ≡ sizes_if_encodable (header_fields fields.kind fields.received fields.country fields.lines) }
 {
-    with_fields(kind, received, country, lines, &mut numbers_size)
+    with_fields(fields, &mut numbers_size)
 }
 
 // Writes the fields before the lines at a position of a lent slice. Where there is no room, or one is too large, no byte changes.
-pub fn write_header(
-    out: &mut [u8],
-    at: usize,
-    kind: u64,
-    received: u64,
-    country: u64,
-    lines: u64,
-) -> Result<usize, WriteError>
-    ensures value { result ≡ answer_all (length out.old) at (header_fields kind received country lines) }
-    ensures after { out.new ≡ leaves_all out.old at (header_fields kind received country lines) }
+pub fn write_header(out: &mut [u8], at: usize, fields: Fields) -> Result<usize, WriteError>
+    ensures value { result ≡ answer_all (length out.old) at (header_fields fields.kind fields.received fields.country fields.lines) }
+    ensures after { out.new ≡ leaves_all out.old at (header_fields fields.kind fields.received fields.country fields.lines) }
 {
-    with_fields(
-        kind,
-        received,
-        country,
-        lines,
-        &mut |fields| write_numbers(out, at, fields),
-    )
+    with_fields(fields, &mut |numbers| write_numbers(out, at, numbers))
 }

@@ -84,7 +84,8 @@ impl<'a> Iterator for Lines<'a> {
     }
 }
 
-// How many lines the entries add to the list of a day.
+// How many lines the entries add to the list of a day. Words and day stay two here and below: of any `Lines` a proof would not know
+// that their count and size have room in a word.
 #[tactic(auto, using(crate::proofs::Counted::lines_few))]
 pub fn count_lines(words: &[u64], day: u64) -> usize
     ensures { result ≡ length (lines_by words.now day) }

@@ -53,7 +53,8 @@ fn apply_checked<'a>(
     if m.header.received < header.received {
         return Err(Refusal::ReceivedEarlier);
     }
-    let mut marks = [0; 1000];
+    // In the form that document 01 names, of the type `Marks`, which holds it to the length.
+    let mut marks: country_code::Marks = [0; 1000];
     country_marks::mark_countries(notice, m.header, &mut marks);
     let closings = Closings {
         plan: plan_of(m, header.period, header.latest),

@@ -40,7 +40,7 @@ pub fn read_number(s: &[u8], at: usize) -> Read<u64>
 }
 
 // The number at a position of a slice, the short way where it has one group, as most fields do: that much is compiled into its
-// callers, which all of `read_number` is too long for.
+// callers, which all of `read_number` is too long for. With `read_number` alone a full notice takes a tenth longer.
 #[tactic(auto, using(crate::proofs::Model::one_group))]
 pub fn read_field(s: &[u8], at: usize) -> Read<u64>
     ensures { result ≡ read_number s.now at }
@@ -51,7 +51,7 @@ pub fn read_field(s: &[u8], at: usize) -> Read<u64>
     }
 }
 
-// A number from least to most, else 4.
+// A number from least to most, else 4. As one `RangeInclusive` they would be no plainer: one that has been walked is over.
 pub fn in_range(read: Read<u64>, least: u64, most: u64) -> Read<u64>
     ensures { result ≡ in_range read least most }
 {

@@ -23,7 +23,7 @@ impl<'a> Reader<'a> {
     }
 
     // The next number, or its refusal; the reader moves on to the place after the number, and stays where nothing can be read.
-    pub fn next<'s>(&'s mut self) -> Read<u64>
+    pub fn next(&mut self) -> Read<u64>
         ensures { (result ≡ read_number self.old.src.now self.old.at)
             × (self.new ≡ moved_on self.old) }
     {

@@ -29,7 +29,7 @@ fn put_number(out: &mut [u8], at: usize, n: u64) -> usize
     ensures value { result ≡ at + length (encode n) }
     ensures after { out.new ≡ sets out.old at (encode n) }
 {
-    // The value tells where its groups end: their count is not known before.
+    // The value that is left tells where its groups end: a count of them before would take it apart twice.
     let mut m = n;
     let mut i = at;
     while 128 <= m {

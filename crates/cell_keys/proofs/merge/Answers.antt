@@ -2,9 +2,8 @@ use Rattle.std.proofs.Common.{refl, ap, sym, ◌∙◌, take, arith}
 use Rattle.std.proofs.lemmas.List.Edits.{sets}
 use Rattle.code_entry.specs.Range.{range_keys}
 use Rattle.code_cell.specs.Cell.{insert_all}
-use Rattle.dial_code.proofs.Tests.{positive}
 use Rattle.code_cell.proofs.RangeKeys.{range_keys_law}
-use Rattle.cell_keys.proofs.Turns.{some_room, merge_old, merge_new, merge_ends, merge_rest, rest_fits, same_few, step_back, value_most}
+use Rattle.cell_keys.proofs.Turns.{some_room, merge_old, merge_new, merge_ends, merge_rest, rest_fits}
 use Rattle.cell_keys.proofs.Puts.{run_of}
 use Rattle.cell_keys.proofs.merge.Goals as goal
 
@@ -28,41 +27,16 @@ overflow_sub-end c = omega (arith, some_room _ _ _ _ _ _ _ _ _ _ c.loop-p.invari
 pub loop-p-preserved-then-key-x : goal.loop-p-preserved-then-key-x
 loop-p-preserved-then-key-x c = merge_old _ _ _ _ _ _ _ _ _ _ _ c.loop-p.invariant c.loop-p-test.true refl c.if-key-x.true
 
-pub overflow_sub-p-in-loop-p : goal.overflow_sub-p-in-loop-p
-overflow_sub-p-in-loop-p c = omega (arith, same_few _ _ _ c.from-p.ensures, c.loop-p-test.true)
-
 pub returns-then-left-eq0 : goal.returns-then-left-eq0
 returns-then-left-eq0 c =
     rw (← c.range.view_is, range_keys_law)
     (merge_ends _ _ _ _ _ _ _ _ _ _ _ c.loop-p.invariant c.loop-p-test.true refl _ c.from-p.ensures c.if-key-x.false
     c.if-left-eq0.true)
 
-pub overflow_add-range-inside : goal.overflow_add-range-inside
-overflow_add-range-inside c = omega (arith, value_most _ _ _ c.loop-p.invariant.run)
-
-pub key_step-key-requires : goal.key_step-key-requires
-key_step-key-requires c =
-    let r = c.loop-p.invariant.run in
-    record { run = (r.0, r.1, omega arith, omega (arith, r.3, positive c.if-left-eq0.false)); weight_is = c.weight_of-weight.ensures }
-
-pub overflow_sub-key : goal.overflow_sub-key
-overflow_sub-key c = omega (arith, step_back _ _ _ _ _ c.loop-p.invariant.keyed c.if-left-eq0.false c.key_step-key.ensures)
-
 pub loop-p-preserved : goal.loop-p-preserved
 loop-p-preserved c =
     merge_new _ _ _ _ _ _ _ _ _ _ _ c.loop-p.invariant c.loop-p-test.true refl _ c.from-p.ensures c.if-key-x.false _
     c.if-left-eq0.false c.key_step-key.ensures
-
-pub invariant_of-rest : goal.invariant_of-rest
-invariant_of-rest c =
-    let r = c.loop-p.invariant.run in
-    record {
-      some = r.0;
-      few = r.1;
-      least = r.2;
-      most = omega (arith, c.loop-p.invariant.less, c.range.invariant.most);
-      within = r.3;
-    }
 
 pub fill-requires-clause-room : goal.fill-requires-clause-room
 fill-requires-clause-room c = omega (arith, rest_fits _ _ _ _ _ _ _ _ _ _ c.loop-p.invariant c.loop-p-test.false)

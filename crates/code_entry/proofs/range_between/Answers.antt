@@ -30,10 +30,6 @@ overflow_add-count c =
     let m = last_fits _ _ _ _ c.first.invariant c.last.invariant (omega arith) c.if-last-first.false (allowed (goal.at.overflow_add-count c).Else-last-first) in
     record { fits = omega (arith, m) }
 
-pub are_codes-requires : goal.are_codes-requires
-are_codes-requires c =
-    (c.requires, rw (← c.first.view_is) (last_below _ _ _ _ c.first.invariant c.last.invariant (omega arith) c.if-last-first.false))
-
 pub returns-then-not-are_codes : goal.returns-then-not-are_codes
 returns-then-not-are_codes c =
     let q = rw (← c.first.view_is) at (sym c.are_codes.ensures ∙ c.if-not-are_codes.true) in

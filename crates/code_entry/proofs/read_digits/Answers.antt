@@ -1,10 +1,7 @@
-use Rattle.std.proofs.Common.{◌≡◌, ◌+◌, length, ap, sym, ◌∙◌, add-zero, length-drop, arith}
+use Rattle.std.proofs.Common.{◌≡◌, ◌+◌, length, ap, sym, ◌∙◌, length-drop, arith}
 use Rattle.std.proofs.lemmas.List.{take_rest}
 use Rattle.code_entry.proofs.Counting.{run_ends, run_stops, run_goes}
 use Rattle.code_entry.proofs.read_digits.Goals as goal
-
-pub loop-i-init : goal.loop-i-init
-loop-i-init c = rw (take_rest, add-zero)
 
 pub returns-then-not-is_ascii_digit : goal.returns-then-not-is_ascii_digit
 returns-then-not-is_ascii_digit c =

@@ -1,36 +1,24 @@
 -- best_offer meets its contract: a turn answers, or leaves one place fewer to try. Assumes nothing.
-use mathlib.Core.Path.{◌≡◌, refl, ap, sym, ◌∙◌}
-use Rattle.std.proofs.Common.{Result, Ok, Err}
-use Rattle.std.specs.Result.{result_ok, result_unwrap_or}
-use Rattle.rate.specs.OfferWord.{offer_of}
-use Rattle.rate.specs.declared.Offer.{Offer}
-use Rattle.rate.specs.declared.Offer.TheVariants.{Closed}
-use Rattle.book.specs.Status.{held_offer}
-use Prim.Native.Nat.{ℕ, ◌-◌, ◌*◌, ◌<◌, min}
+use mathlib.Core.Path.{◌≡◌, refl, sym, ◌∙◌}
+use Prim.Native.Nat.{◌-◌, ◌*◌, ◌<◌, min}
 use native.Mathlib.Omega.{arith}
 use Rattle.dial_code.proofs.CountedKeys.{next_weight, weight_most}
 use Rattle.longest_match.specs.Search.{tried, best_found}
 use Rattle.longest_match.specs.Match.{standing}
 use Rattle.longest_match.proofs.Halving.{some_last}
-use Rattle.longest_match.proofs.Matching.{stands, passes, place_key, next_quotient, prefix_most}
+use Rattle.longest_match.proofs.Matching.{stands, passes, place_key, next_quotient}
 use Rattle.longest_match.proofs.Matching.{starts, no_place, none_found, passed_by, searched}
-use Rattle.longest_match.proofs.best_offer.Goals.{After-unwrap_or-offer, else-k-bound, then-k-bound+in-Some+else-is_standing}
+use Rattle.longest_match.proofs.best_offer.Goals.{After-own_offer-offer, else-k-bound, then-k-bound+in-Some+else-is_standing}
 use Rattle.longest_match.proofs.best_offer.Goals as goal
-
--- the offer that a word stands for, closed where it is no offer word
-held : {E : Type 0} (r : Result Offer E) {o : Offer} (word : ℕ) → result_ok r ≡ offer_of word → o ≡ result_unwrap_or r Closed
-    → o ≡ held_offer (offer_of word)
-held (Ok x) word e q = q ∙ ap held_offer e
-held (Err z) word e q = q ∙ ap held_offer e
 
 -- the answer by the offer found
 at_offer :
-    (c : After-unwrap_or-offer)
+    (c : After-own_offer-offer)
     → let l = c.loop in
     let a = c.args in
     let k = l.quotient * l.place in
     best_found a.words.now a.key a.day
-    ≡ standing c.unwrap_or-offer.result k
+    ≡ standing c.own_offer-offer.result k
     (tried c.entries_up_to-entries.result a.key a.day (l.invariant.places - 1) (min c.in-Some.e.key (k - 1)))
 at_offer c =
     let l = c.loop in
@@ -41,19 +29,13 @@ at_offer c =
     c.if-k-bound.true
     c.entries_up_to-entries.ensures
     (some_last _ c.in-Some.ensures.1)
-    c.own_word.ensures
-    (held _ _ c.try_from.ensures c.unwrap_or-offer.ensures)
+    refl
+    c.own_offer-offer.ensures
 
 pub loop-init : goal.loop-init
 loop-init c =
     let e = c.entries-entries.ensures in
     record { places = 15; left = refl; weight = refl; truncated = omega arith; rest = starts _ _ _ e }
-
-pub overflow_mul-k : goal.overflow_mul-k
-overflow_mul-k c =
-    let i = c.loop.invariant in
-    let a = c.args in
-    omega (arith, place_key _ _ _ _ i.weight i.truncated, prefix_most a.key i.places)
 
 pub returns-in_default : goal.returns-in_default
 returns-in_default c =
@@ -68,7 +50,7 @@ returns-in_default c =
 
 pub returns-then-is_standing : goal.returns-then-is_standing
 returns-then-is_standing c =
-    sym (at_offer (goal.at.returns-then-is_standing c).After-unwrap_or-offer ∙ stands _ _ _ (sym c.is_standing.ensures ∙ c.if-is_standing.true))
+    sym (at_offer (goal.at.returns-then-is_standing c).After-own_offer-offer ∙ stands _ _ _ (sym c.is_standing.ensures ∙ c.if-is_standing.true))
 
 pub overflow_mul-place : goal.overflow_mul-place
 overflow_mul-place c = let i = c.loop.invariant in omega (arith, weight_most _ _ (omega (arith, c.loop-test.true)) i.weight)
@@ -95,9 +77,9 @@ loop-preserved c =
             v.if-k-bound.true
             v.entries_up_to-entries.ensures
             (some_last _ v.in-Some.ensures.1)
-            v.own_word.ensures
-            (held _ _ v.try_from.ensures v.unwrap_or-offer.ensures)
-            ∙ passes v.unwrap_or-offer.result k rest (sym v.is_standing.ensures ∙ v.if-is_standing.false))
+            refl
+            v.own_offer-offer.ensures
+            ∙ passes v.own_offer-offer.result k rest (sym v.is_standing.ensures ∙ v.if-is_standing.false))
         | else-k-bound v ↦ rw (v.entries-is, v.bound-is) (i.rest ∙ passed_by _ _ _ _ _ _ h q v.if-k-bound.false)
       ];
     }

@@ -38,9 +38,6 @@ plan_of-requires c =
 pub invariant_of-book : goal.invariant_of-book
 invariant_of-book c = (ready _ _ c.requires.2).lines_most
 
-pub shape_of-new : goal.shape_of-new
-shape_of-new c = c.fill-done.auto.new
-
 pub returns-then-not-has_room : goal.returns-then-not-has_room
 returns-then-not-has_room c =
     let a = c.args in

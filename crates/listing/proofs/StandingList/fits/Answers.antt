@@ -1,5 +1,5 @@
 -- fits meets its contract: lines of the largest size leave room, or the sizes added up tell. Assumes nothing.
-use Rattle.std.proofs.Common.{◌≡◌, ℕ, leb, length, rules, arith, ap, sym, le-leb, ◌∙◌}
+use Rattle.std.proofs.Common.{◌≡◌, ℕ, Some, leb, length, rules, arith, ap, sym, le-leb, ◌∙◌}
 use Rattle.listing.proofs.Answering.{before_lines, Sized, sized}
 use Rattle.listing.proofs.StandingList.fits.Goals.{After-header_size, After-unwrap-header}
 use Rattle.listing.proofs.StandingList.fits.Goals as goal
@@ -10,12 +10,15 @@ parts c = let s = c.args.self.now in sized s.words.now s.day s.lines s.is_there 
 header : (c : After-unwrap-header) →
     let s = c.args.self.now in
     c.unwrap-header.result ≡ length (before_lines s.words.now s.day s.lines s.is_there s.lines_counted)
-header c = cc (parts (goal.at.After-unwrap-header c).After-header_size).header_size
+header c =
+    let p = parts (goal.at.After-unwrap-header c).After-header_size in
+    let s : c.header_size.result ≡ Some _ = (rw c.header.ensures at c.header_size.ensures) ∙ p.header_size in
+    cc (s, c.unwrap-header.ensures)
 
 pub unwrap-header-requires : goal.unwrap-header-requires
 unwrap-header-requires c =
     let p = parts (goal.at.unwrap-header-requires c).After-header_size in
-    search (rules, p.header_size)
+    search (rules, (rw c.header.ensures at c.header_size.ensures) ∙ p.header_size)
 
 pub overflow_mul-self : goal.overflow_mul-self
 overflow_mul-self c = let p = parts (goal.at.overflow_mul-self c).After-header_size in omega (arith, p.lines_most)

@@ -11,7 +11,7 @@ put c =
     let s = c.args.self.now in
     let w = c.write_header.ensures in
     begun s.words.now s.day s.lines s.is_there s.lines_counted c.args.out.now c.requires
-    (rw c.from.ensures at w.value) (rw c.from.ensures at w.after)
+    (rw c.header.ensures at w.value) (rw c.header.ensures at w.after)
 
 pub unwrap-at-requires : goal.unwrap-at-requires
 unwrap-at-requires c = let p = put (goal.at.unwrap-at-requires c).After-write_header in search (rules, p.answer)
