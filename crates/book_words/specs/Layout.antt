@@ -15,10 +15,6 @@ entry_words = 3
 abbrev pub most_entries : ℕ
 most_entries = 65535
 
--- the words of the longest book that is of use
-abbrev pub most_words : ℕ
-most_words = header_words + most_entries * entry_words
-
 abbrev pub most_period : ℕ
 most_period = 365
 

@@ -2,7 +2,7 @@
 use Rattle.std.specs.Prelude.{◌≡◌, refl, [], ◌∷◌, ℕ, ◌+◌, ◌*◌, min}
 use Rattle.calendar.specs.declared.Day.{Day}
 use Rattle.calendar.specs.declared.Moment.{Moment}
-use Rattle.book_words.specs.Layout.{header_words, entry_words, most_entries, most_words, held}
+use Rattle.book_words.specs.Layout.{header_words, entry_words, most_entries, held}
 
 abbrev pub day : ℕ → Day
 day n = record { 0 = n }
@@ -17,7 +17,7 @@ words_for n = header_words + min n most_entries * entry_words
 -- no entries, one, the most, and more; such a book holds them
 words :
     words_for 0 ∷ words_for 1 ∷ words_for most_entries ∷ words_for (most_entries + 1) ∷ []
-    ≡ header_words ∷ (header_words + entry_words) ∷ most_words ∷ most_words ∷ []
+    ≡ 4 ∷ 7 ∷ 196609 ∷ 196609 ∷ []
 unfolding words_for
 words = refl
 
