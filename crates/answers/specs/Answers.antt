@@ -56,7 +56,7 @@ abbrev pub charged_of : ℕ → Result Charged Refusal → RateBookCall
 charged_of key (Ok c) = call_answer 0 key c.seconds c.amount
 charged_of key (Err e) = call_answer (number_of e) key 0 0
 
-abbrev pub call_of : Call → RateBookCall
+abbrev pub call_of : Call Refusal → RateBookCall
 call_of c = charged_of c.key c.charged
 
 abbrev pub batch_answer : ℕ → ℕ → ℕ → ℕ → RateBookBatch

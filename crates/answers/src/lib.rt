@@ -139,10 +139,10 @@ impl From<Result<Answer, Refusal>> for RateBookOffer {
     }
 }
 
-impl From<Call> for RateBookCall {
+impl From<Call<Refusal>> for RateBookCall {
     ghost from_gives = { λ call r. r ≡ call_of call };
 
-    fn from(call: Call) -> RateBookCall {
+    fn from(call: Call<Refusal>) -> RateBookCall {
         match call.charged {
             Ok(charged) => RateBookCall {
                 refusal: 0,

@@ -1,12 +1,14 @@
 -- The rules of soundness, opened one at a time, and some of their cases. Assumes nothing.
 use mathlib.Core.Path.{◌≡◌, refl, sym, ◌∙◌}
-use mathlib.Core.Bool.{true, cond, ◌&&◌, not}
+use mathlib.Core.Bool.{true, false, cond, ◌&&◌, not}
 use mathlib.Core.List.{List, [], ◌∷◌}
 use Prim.Native.Nat.{ℕ, ◌+◌, ◌*◌, ◌≤◌, ◌<◌}
 use native.Mathlib.Omega.{arith}
+use native.Mathlib.Numerals.{add-one}
 use borrow.Author.Tests.{le-leb, lt-ltb, eq-eqb, ne_eqb}
 use lib.Dec.{eqb, leb, ltb}
-use lib.ListN.{length, drop}
+use lib.ListN.{length, get_or, drop, drop_of_length-le}
+use lib.Seq.{drop-cons}
 use Rattle.allowed_code.specs.Code.{is_code_key, is_code_key_after}
 use Rattle.allowed_code.proofs.CodeLaws.{after_code}
 use Rattle.dial_code.proofs.Tests.{and_left_true, and_right_true}
@@ -94,3 +96,17 @@ module _ (e f : Entry) where
       → (not (eqb f.offer 0) && in_range f) ≡ true
       → follows e f ≡ is_code_key_after e.key f.key
   next_code c k o = larger_key k ∙ by_key f o ∙ sym (after_code e.key f.key c)
+
+-- Words that are 0 from a place on: a word that is not, one that is, and no word left.
+module _ (ws : List ℕ) (i : ℕ) where
+  pub not_zero : i < length ws → (get_or ws i 0 ≡ 0 → ⊥) → all_zero (drop i ws) ≡ false
+  unfolding all_zero
+  not_zero h n = rw (drop-cons ws i 0 h, ne_eqb (get_or ws i 0) 0 n)
+
+  pub one_zero : i < length ws → get_or ws i 0 ≡ 0 → all_zero (drop i ws) ≡ all_zero (drop (i + 1) ws)
+  unfolding all_zero
+  one_zero h e = rw (drop-cons ws i 0 h, eq-eqb (get_or ws i 0) 0 e, add-one)
+
+  pub all_seen : length ws ≤ i → all_zero (drop i ws) ≡ true
+  unfolding all_zero
+  all_seen h = rw (drop_of_length-le ws h)

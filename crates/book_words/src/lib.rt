@@ -144,12 +144,19 @@ fn word_at(words: &[u64], at: usize) -> u64
     words.get(at).copied().unwrap_or(0)
 }
 
-// The entry that starts at a place; words past the end count as 0.
+// The entry that starts at a place; words past the end count as 0. A place of 32 bits has one test and no end of its own.
 #[tactic(auto, unfolding(crate::specs::Layout::entry_at))]
 pub fn entry_at(words: &[u64], at: u32) -> Entry
     ensures { result ≡ entry_at words.now at }
 {
     let from = at as usize;
+    if from + ENTRY_WORDS <= words.len() {
+        return Entry {
+            key: words[from],
+            day: words[from + DAY_WORD],
+            offer: words[from + OFFER_WORD],
+        };
+    }
     Entry {
         key: word_at(words, from),
         day: word_at(words, from + DAY_WORD),

@@ -11,12 +11,12 @@ use Rattle.dial_code.proofs.Tests.{below, equal, above, order}
 use Rattle.code_entry.specs.Range.{range_keys}
 use Rattle.code_entry.specs.declared.CodeRange.{CodeRange}
 use Rattle.code_cell.specs.Cell.{insert_all}
-use Rattle.code_cell.specs.Count.{good_ranges, outcome, all_keys}
+use Rattle.code_cell.specs.Count.{outcome, all_keys}
 use Rattle.code_cell.specs.Rising.{Above, Rising, holds}
 use Rattle.code_cell.proofs.Inserts.{all_rising, above_less}
 use Rattle.code_cell.proofs.Members.{holds_all, above_out, or_false}
 use Rattle.code_cell.proofs.Marks.{or_join}
-use Rattle.code_cell.specs.Reading.{names_left, ranges_left, GivesFirst, GivesLast}
+use Rattle.code_cell.specs.Reading.{names_left, good_ranges, ranges_left, GivesFirst, GivesLast}
 use Rattle.code_cell.specs.declared.Entries.{Entries}
 use Rattle.cell_keys.proofs.Writes.{keys_rise}
 use Rattle.std.specs.Iterator.{AlwaysYields, Drains, HoldsAlong}
@@ -58,11 +58,11 @@ rising_unique (x ∷ xs) (y ∷ ys) r s h =
     ]
 
 -- The keys of ranges, the last range first.
-abbrev back_keys : List CodeRange → List ℕ
+abbrev pub back_keys : List CodeRange → List ℕ
 back_keys [] = []
 back_keys (r ∷ rs) = insert_all (range_keys r) (back_keys rs)
 
-back_rising : (rs : List CodeRange) → Rising (back_keys rs)
+pub back_rising : (rs : List CodeRange) → Rising (back_keys rs)
 back_rising [] = tt
 back_rising (r ∷ rs) = all_rising (range_keys r) (back_keys rs) (back_rising rs)
 

@@ -6,7 +6,8 @@ use native.Mathlib.Omega.{arith}
 use borrow.Author.Tests.{lt-ltb, le-ltb, ltb-false}
 use mathlib.Core.Bool.{Bool, true, false, cond}
 use lib.Dec.{ltb}
-use Rattle.code_cell.specs.Count.{good_ranges, outcome, all_keys}
+use Rattle.code_cell.specs.Count.{outcome, all_keys}
+use Rattle.code_cell.specs.Reading.{good_ranges}
 use Rattle.code_cell.proofs.Decisions.{decision, decided}
 use Rattle.refusal.specs.Steps.{◌>>=◌}
 use lib.ListN.{length, drop, length-drop}

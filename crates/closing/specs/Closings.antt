@@ -13,28 +13,30 @@ use Rattle.effect.specs.declared.Plan.{Plan}
 unfoldable pub is_marked : List ℕ → ℕ → Bool
 is_marked marks c = cond (ltb c 1000) (eqb (get_or marks c 0) 1) false
 
--- Whether a code that is not listed is closed.
-abbrev pub closes_in : Kind → List ℕ → Option ℕ → Bool
-closes_in Full marks c = true
-closes_in Partial marks (Some c) = is_marked marks c
-closes_in Partial marks None = false
-closes_in Update marks c = false
-closes_in (Replacement named) marks (Some c) = eqb c named
-closes_in (Replacement named) marks None = false
+-- Whether a code that is not listed is closed; with no kind none is.
+abbrev pub closes_in : Option Kind → List ℕ → Option ℕ → Bool
+closes_in None marks c = false
+closes_in (Some Full) marks c = true
+closes_in (Some Partial) marks (Some c) = is_marked marks c
+closes_in (Some Partial) marks None = false
+closes_in (Some Update) marks c = false
+closes_in (Some (Replacement named)) marks (Some c) = eqb c named
+closes_in (Some (Replacement named)) marks None = false
 
 unfoldable pub closes_by : Plan → List ℕ → ℕ → Bool
 unfolding is_marked
 closes_by p marks k = closes_in p.kind marks (country_of_key k)
 
 abbrev pub range : ℕ → ℕ → Bool → ClosedRange
-range start end closed = record { keys = record { start = start; end = end }; closed = closed }
+range low high closed = record { keys = record { low = low; high = high }; closed = closed }
 
 -- A full notice closes every code and an update none, whatever is marked; of another nothing is known yet.
-abbrev pub closed_as : Kind → ClosedRange
-closed_as Full = range 0 keys_end true
-closed_as Partial = range 0 0 false
-closed_as Update = range 0 keys_end false
-closed_as (Replacement named) = range 0 0 false
+abbrev pub closed_as : Option Kind → ClosedRange
+closed_as None = range 0 0 false
+closed_as (Some Full) = range 0 keys_end true
+closed_as (Some Partial) = range 0 0 false
+closed_as (Some Update) = range 0 keys_end false
+closed_as (Some (Replacement named)) = range 0 0 false
 
 unfoldable pub closed_anyway : Plan → ClosedRange
 closed_anyway p = closed_as p.kind
@@ -44,25 +46,27 @@ unfoldable pub closed_range : Plan → List ℕ → ℕ → ClosedRange
 unfolding closes_by
 closed_range p marks k = record { keys = stretch_of k; closed = closes_by p marks k }
 
-plan : Kind → Plan
+plan : Option Kind → Plan
 plan kind = record { kind = kind; received = 100; floor = 107; noticed = false; closing = 107 }
 
 -- 44 in a full notice; 7 in a partial one with 7 marked and with 0 and 1 marked; 44 in an update and in replacements of 44 and of 7;
--- a word with no country in a partial notice
+-- a word with no country in a partial notice; with no kind 7, which is marked, and 44
 closings :
-    closes_by (plan Full) [] (key (4 ∷ 4 ∷ []))
-    ∷ closes_by (plan Partial) (0 ∷ 0 ∷ 0 ∷ 0 ∷ 0 ∷ 0 ∷ 0 ∷ 1 ∷ []) (key (7 ∷ []))
-    ∷ closes_by (plan Partial) (1 ∷ 1 ∷ []) (key (7 ∷ []))
-    ∷ closes_by (plan Update) [] (key (4 ∷ 4 ∷ []))
-    ∷ closes_by (plan (Replacement 44)) [] (key (4 ∷ 4 ∷ []))
-    ∷ closes_by (plan (Replacement 7)) [] (key (4 ∷ 4 ∷ []))
-    ∷ closes_by (plan Partial) (1 ∷ 1 ∷ []) 0
+    closes_by (plan (Some Full)) [] (key (4 ∷ 4 ∷ []))
+    ∷ closes_by (plan (Some Partial)) (0 ∷ 0 ∷ 0 ∷ 0 ∷ 0 ∷ 0 ∷ 0 ∷ 1 ∷ []) (key (7 ∷ []))
+    ∷ closes_by (plan (Some Partial)) (1 ∷ 1 ∷ []) (key (7 ∷ []))
+    ∷ closes_by (plan (Some Update)) [] (key (4 ∷ 4 ∷ []))
+    ∷ closes_by (plan (Some (Replacement 44))) [] (key (4 ∷ 4 ∷ []))
+    ∷ closes_by (plan (Some (Replacement 7))) [] (key (4 ∷ 4 ∷ []))
+    ∷ closes_by (plan (Some Partial)) (1 ∷ 1 ∷ []) 0
+    ∷ closes_by (plan None) (0 ∷ 0 ∷ 0 ∷ 0 ∷ 0 ∷ 0 ∷ 0 ∷ 1 ∷ []) (key (7 ∷ []))
+    ∷ closes_by (plan None) [] (key (4 ∷ 4 ∷ []))
     ∷ []
-    ≡ true ∷ true ∷ false ∷ false ∷ true ∷ false ∷ false ∷ []
+    ≡ true ∷ true ∷ false ∷ false ∷ true ∷ false ∷ false ∷ false ∷ false ∷ []
 unfolding closes_by plan key country_of_key
 closings = refl
 
-anyway : closed_anyway (plan Full) ∷ closed_anyway (plan Partial) ∷ closed_anyway (plan Update) ∷ closed_anyway (plan (Replacement 44)) ∷ []
-    ≡ range 0 keys_end true ∷ range 0 0 false ∷ range 0 keys_end false ∷ range 0 0 false ∷ []
+anyway : closed_anyway (plan (Some Full)) ∷ closed_anyway (plan (Some Partial)) ∷ closed_anyway (plan (Some Update)) ∷ closed_anyway (plan (Some (Replacement 44))) ∷ closed_anyway (plan None) ∷ []
+    ≡ range 0 keys_end true ∷ range 0 0 false ∷ range 0 keys_end false ∷ range 0 0 false ∷ range 0 0 false ∷ []
 unfolding closed_anyway plan
 anyway = refl

@@ -4,30 +4,32 @@
 ghost use Rattle.std.specs.Prelude.{◌≡◌};
 ghost use Rattle.closing.specs.Closings.{is_marked, closes_by, closed_anyway, closed_range};
 
-use country_code::Marks;
+use country_code::{Marks, Stretch};
 use effect::Plan;
 use notice_header::Kind;
-use std::ops::Range;
 
 // Whether a notice closes the codes with keys in a stretch that it does not list: all of them, or none.
-#[derive(Clone, Drop)]
+#[derive(Clone, Copy, PartialEq, Eq)]
 pub struct ClosedRange {
-    pub keys: Range<u64>,
+    pub keys: Stretch,
     pub closed: bool,
 }
 
 // The codes that a notice closes alike whatever their countries: all or none, where it is full or an update; else an empty range,
-// which no key is in, so that the first key asks for its own.
+// which no key is in, so that the first key asks for its own. A plan with no kind closes none.
 #[tactic(auto, unfolding(crate::specs::Closings::closed_anyway))]
 pub fn closed_anyway(plan: Plan) -> ClosedRange
     ensures { result ≡ closed_anyway plan }
 {
-    let (keys, closed) = match plan.kind {
-        Kind::Full => (0..dial_code::KEYS_END, true),
-        Kind::Update => (0..dial_code::KEYS_END, false),
-        Kind::Partial | Kind::Replacement(_) => (0..0, false),
+    let (high, closed) = match plan.kind {
+        Some(Kind::Full) => (dial_code::KEYS_END, true),
+        Some(Kind::Update) => (dial_code::KEYS_END, false),
+        Some(Kind::Partial | Kind::Replacement(_)) | None => (0, false),
     };
-    ClosedRange { keys, closed }
+    ClosedRange {
+        keys: Stretch { low: 0, high },
+        closed,
+    }
 }
 
 // What a notice asks of the codes that it does not list: its plan, and the marks of a partial notice's countries.
@@ -54,10 +56,10 @@ impl Closings<'_> {
         let marks = self.marks;
         let country = country_code::country_of_key(key);
         match self.plan.kind {
-            Kind::Full => true,
-            Kind::Partial => country.is_some_and(|country| is_marked(marks, country)),
-            Kind::Update => false,
-            Kind::Replacement(named) => country == Some(named),
+            Some(Kind::Full) => true,
+            Some(Kind::Partial) => country.is_some_and(|country| is_marked(marks, country)),
+            Some(Kind::Update) | None => false,
+            Some(Kind::Replacement(named)) => country == Some(named),
         }
     }
 

@@ -13,7 +13,8 @@ use Rattle.dial_code.proofs.Tests.{below, equal, above, order}
 use Rattle.code_entry.specs.Range.{range_keys}
 use Rattle.code_entry.specs.declared.CodeRange.{CodeRange}
 use Rattle.code_cell.specs.Cell.{insert_all, keys_named}
-use Rattle.code_cell.specs.Count.{good_ranges, outcome, all_keys}
+use Rattle.code_cell.specs.Count.{outcome, all_keys}
+use Rattle.code_cell.specs.Reading.{good_ranges}
 use Rattle.code_cell.proofs.Inserts.{all_longer}
 use Rattle.refusal.specs.declared.Refusal.TheVariants.{KeysTooMany}
 use Rattle.refusal.specs.Steps.{◌>>=◌}

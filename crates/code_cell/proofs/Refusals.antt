@@ -14,7 +14,7 @@ use Rattle.code_entry.specs.Entry.{entry_codes, own_code}
 use Rattle.code_entry.specs.declared.CodeRange.{CodeRange}
 use Rattle.code_entry.proofs.EntryLaws.{writable, own_writable}
 use Rattle.code_cell.specs.Cell.{insert_all, entries_of, entry_names, names_of, is_own, keys_named, own_keys, cell_keys, checked}
-use Rattle.code_cell.specs.Count.{good_ranges, outcome, all_keys, bound_of}
+use Rattle.code_cell.specs.Count.{outcome, all_keys, bound_of}
 use Rattle.code_cell.proofs.Inserts.{all_into_none}
 use Rattle.code_cell.proofs.RangeKeys.{range_keys_law, keys_rising, length_keys}
 use Rattle.code_cell.proofs.Marks.{AllWritable}
@@ -26,7 +26,7 @@ use Rattle.refusal.specs.declared.Refusal.{Refusal}
 use Rattle.std.proofs.Common.{Result, Ok, Err, Option, Some, None}
 use Rattle.std.specs.Borrow.{Bor}
 use Rattle.std.specs.Option.{option_map_or}
-use Rattle.code_cell.specs.Reading.{ranges_left}
+use Rattle.code_cell.specs.Reading.{good_ranges, ranges_left}
 use Rattle.code_cell.specs.declared.Entries.{Entries}
 
 -- All that entries name can be written.

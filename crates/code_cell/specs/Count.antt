@@ -6,6 +6,7 @@ use Rattle.dial_code.specs.Key.{key, keys_end}
 use Rattle.code_entry.specs.Range.{range_of, range_keys, first_key, last_key}
 use Rattle.code_entry.specs.declared.CodeRange.{CodeRange}
 use Rattle.code_cell.specs.Cell.{insert_all}
+use Rattle.code_cell.specs.Reading.{good_ranges, named}
 use Rattle.code_cell.specs.declared.Order.{Order}
 use Rattle.std.specs.declared.ops.Range.{Range}
 use Rattle.code_cell.specs.declared.Survey.{Survey}
@@ -29,12 +30,7 @@ marks_end = 2 * 10 ^ most_digits
 abbrev pub stretch : ℕ → ℕ → Range ℕ
 stretch a b = record { start = a; end = b }
 
--- What entries name up to the first that is refused, and whether none is.
-unfoldable pub good_ranges : List (Result CodeRange Refusal) → List CodeRange
-good_ranges [] = []
-good_ranges (Ok r ∷ ns) = r ∷ good_ranges ns
-good_ranges (Err e ∷ ns) = []
-
+-- Whether none of several entries is refused, or why the first that is.
 unfoldable pub outcome : List (Result CodeRange Refusal) → Result (Unit {0}) Refusal
 outcome [] = Ok tt
 outcome (Ok r ∷ ns) = outcome ns
@@ -76,15 +72,6 @@ bound_of room b p (r ∷ rs) = bound_of room (added room b p r) (Some r) rs
 -- A first look at a cell: that bound, and whether all its entries can be read.
 abbrev pub told : Result (Unit {0}) Refusal → ℕ → Survey
 told x b = record { answer = x; bound = b }
-
--- 7, 98, 99: the last is refused, and nothing behind it counts
-named : List (Result CodeRange Refusal)
-named = Ok (range_of 1 7 1) ∷ Ok (range_of 2 98 1) ∷ Err EntryNotAllowed ∷ Ok (range_of 1 1 1) ∷ []
-
-before_refused :
-    good_ranges named ∷ good_ranges [] ∷ [] ≡ (range_of 1 7 1 ∷ range_of 2 98 1 ∷ []) ∷ [] ∷ []
-unfolding good_ranges named
-before_refused = refl
 
 first_refused : outcome named ∷ outcome [] ∷ [] ≡ Err EntryNotAllowed ∷ Ok tt ∷ []
 unfolding outcome named

@@ -5,11 +5,11 @@ ghost use Rattle.std.specs.Prelude.{◌≡◌, ◌≢◌, ℕ, MatchOption, Each
 ghost use Rattle.std.specs.Option.{option_map_or};
 ghost use Rattle.std.specs.Iterator.{item_count};
 ghost use Rattle.code_entry.specs.Entry.{is_blank, comma, entry_of, entry_codes};
-ghost use Rattle.code_cell.specs.Reading.{names_left, ranges_left, GivesFirst, GivesLast};
+ghost use Rattle.code_cell.specs.Reading.{names_left, good_ranges, ranges_left, ReadsFirst, GivesFirst, GivesLast};
 ghost use Rattle.dial_code.specs.Digits.{every};
 ghost use Rattle.code_entry.specs.Codes.{most_codes};
 ghost use Rattle.code_cell.specs.Cell.{entries_of, entry_names, is_own, own_keys, cell_keys, checked};
-ghost use Rattle.code_cell.specs.Count.{marks_end, good_ranges, outcome, all_keys, added, bound_of, told, stretch, closer, closest, order_with, ordered, no_order};
+ghost use Rattle.code_cell.specs.Count.{marks_end, outcome, all_keys, added, bound_of, told, stretch, closer, closest, order_with, ordered, no_order};
 
 use code_entry::CodeRange;
 use dial_code::KEYS_END;
@@ -37,15 +37,19 @@ impl<'a> Entries<'a> {
         }
     }
 
-    // Whether none is left, where the first of those left is refused if there is one; or why it is.
-    fn outcome(self) -> Result<(), Refusal>
-        requires { ranges_left self ≡ [] }
-        ensures { result ≡ outcome (names_left self.entry) }
+    // What the first of those left names, or why it is refused, if one is left. A refused one stays.
+    #[inline(always)]
+    fn read(&mut self) -> Option<Result<CodeRange, Refusal>>
+        ensures { ReadsFirst self.old result self.new }
     {
-        if let Some(cell) = self.rest {
-            code_entry::read_entry(self.country, cell)?;
-        }
-        Ok(())
+        let cell = self.rest?;
+        let (range, size) = match code_entry::read_entry(self.country, cell) {
+            Ok(read) => read,
+            Err(e) => return Some(Err(e)),
+        };
+        // Behind the entry's comma, if it has one.
+        self.rest = cell[size..].get(1..);
+        Some(Ok(range))
     }
 }
 
@@ -58,11 +62,7 @@ impl<'a> Iterator for Entries<'a> {
 
     #[inline(always)]
     fn next(&mut self) -> Option<CodeRange> {
-        let cell = self.rest?;
-        let (range, size) = code_entry::read_entry(self.country, cell).ok()?;
-        // Behind the entry's comma, if it has one.
-        self.rest = cell[size..].get(1..);
-        Some(range)
+        self.read()?.ok()
     }
 }
 
@@ -97,19 +97,19 @@ fn split_last(cell: &[u8]) -> (Option<&[u8]>, &[u8])
 
 // A first look at a cell: whether all its entries can be read, and a bound of the distinct codes before the first that cannot.
 #[derive(Clone, Copy)]
-struct Survey {
-    answer: Result<(), Refusal>,
-    bound: u64,
+pub struct Survey {
+    pub answer: Result<(), Refusal>,
+    pub bound: u64,
 }
 
 // Whether ranges rise or fall, with the last and the first key of the last of them. `Option`s would be no plainer: at the first range
 // there is no bound yet, which each test would have to ask.
 #[derive(Clone, Copy)]
-struct Order {
-    rises: bool,
-    falls: bool,
-    top: u64,
-    bottom: u64,
+pub struct Order {
+    pub rises: bool,
+    pub falls: bool,
+    pub top: u64,
+    pub bottom: u64,
 }
 
 impl Order {
@@ -141,11 +141,17 @@ impl Order {
     }
 }
 
-// Whether all bytes are blanks. An entry's blanks are counted (`code_entry`), these stop at the first other byte: one line each.
+// Whether all bytes are blanks. An entry's blanks are counted (`code_entry`), these stop at the first other byte. By `all` it takes 1.6
+// times as long, as with the words of a book (`book`).
 fn is_blank(cell: &[u8]) -> bool
     ensures { result ≡ every is_blank cell.now }
 {
-    cell.iter().all(|&b| b == b' ')
+    for &b in cell {
+        if b != b' ' {
+            return false;
+        }
+    }
+    true
 }
 
 // Whether a cell means the country's own code: it is empty or all blanks, and there is a country cell.
@@ -169,7 +175,7 @@ fn added(room: usize, bound: u64, before: Option<CodeRange>, range: CodeRange) -
 }
 
 // Looks at each entry up to the first that is refused.
-#[tactic(auto, unfolding(crate::specs::Count::good_ranges, crate::specs::Count::outcome, crate::specs::Count::bound_of))]
+#[tactic(auto, unfolding(crate::specs::Reading::good_ranges, crate::specs::Count::outcome, crate::specs::Count::bound_of))]
 fn look_over(entries: Entries, room: usize) -> Survey
     requires { room + most_codes < 2 ^ 64 }
     ensures { result ≡ told (outcome (names_left entries.entry)) (bound_of room 0 None (ranges_left entries.entry)) }
@@ -177,13 +183,22 @@ fn look_over(entries: Entries, room: usize) -> Survey
     let mut left = entries;
     let mut bound: u64 = 0;
     let mut before = None;
-    // After a `for` over `by_ref` a proof does not know what is left.
-    while let Some(range) = left.next() {
-        bound = added(room, bound, before, range);
-        before = Some(range);
+    while let Some(read) = left.read() {
+        match read {
+            Ok(range) => {
+                bound = added(room, bound, before, range);
+                before = Some(range);
+            }
+            Err(e) => {
+                return Survey {
+                    answer: Err(e),
+                    bound,
+                };
+            }
+        }
     }
     Survey {
-        answer: left.outcome(),
+        answer: Ok(()),
         bound,
     }
 }
@@ -204,7 +219,7 @@ fn closer(from: u64, found: Range<u64>, range: CodeRange) -> Range<u64>
 }
 
 // The first stretch of numbers from one on that entries before the first refused one name, if there is one.
-#[tactic(auto, unfolding(crate::specs::Count::good_ranges, crate::specs::Count::closest))]
+#[tactic(auto, unfolding(crate::specs::Reading::good_ranges, crate::specs::Count::closest))]
 fn next_stretch(entries: Entries, from: u64) -> Option<Range<u64>>
     ensures { MatchOption result (marks_end ≤ (closest from (stretch marks_end marks_end) (ranges_left entries.entry)).start) (λ t. (t ≡ closest from (stretch marks_end marks_end) (ranges_left entries.entry)) × (t.start < marks_end)) }
 {
@@ -234,7 +249,7 @@ fn fits(entries: Entries, room: usize) -> bool
 }
 
 // Whether the entries before the first refused one rise, or fall: then no code is named twice.
-#[tactic(auto, unfolding(crate::specs::Count::good_ranges, crate::specs::Count::ordered))]
+#[tactic(auto, unfolding(crate::specs::Reading::good_ranges, crate::specs::Count::ordered))]
 fn is_ordered(entries: Entries) -> bool
     ensures { result ≡ ordered no_order (ranges_left entries.entry) }
 {

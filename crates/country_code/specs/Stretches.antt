@@ -1,21 +1,21 @@
 -- Words with the same first three places, in which the country of a code shows.
 use Rattle.std.specs.Prelude.{◌≡◌, refl, Bool, true, false, cond, ◌&&◌, [], ◌∷◌, ℕ, ◌+◌, ◌-◌, ◌/◌, ◌%◌, eqb, leb, ltb}
 use Rattle.dial_code.specs.Key.{key, keys_end, third_place}
-use Rattle.std.specs.declared.ops.Range.{Range}
+use Rattle.country_code.specs.declared.Stretch.{Stretch}
 
 -- Whether two words have the same first three places.
 unfoldable pub same_places : ℕ → ℕ → Bool
 same_places k w = eqb (k / third_place) (w / third_place)
 
--- Whether a word is in a stretch, which has its start and not its end.
-abbrev pub is_within : Range ℕ → ℕ → Bool
-is_within s w = leb s.start w && ltb w s.end
+-- Whether a word is in a stretch, which has its low end and not its high end.
+abbrev pub is_within : Stretch → ℕ → Bool
+is_within s w = leb s.low w && ltb w s.high
 
-abbrev stretch : ℕ → ℕ → Range ℕ
-stretch start end = record { start = start; end = end }
+abbrev stretch : ℕ → ℕ → Stretch
+stretch low high = record { low = low; high = high }
 
 -- The words with the first three places of a key; an empty stretch from the keys' end on.
-unfoldable pub stretch_of : ℕ → Range ℕ
+unfoldable pub stretch_of : ℕ → Stretch
 stretch_of k = cond (ltb k keys_end) (stretch (k - k % third_place) (k - k % third_place + third_place)) (stretch 0 0)
 
 -- 0, the last word of its stretch and the next; 2345 lies in the stretch of 234; the last key and the keys' end

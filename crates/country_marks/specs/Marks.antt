@@ -20,12 +20,13 @@ marks_of marks (l ∷ ls) = marks_of (marked (country_of_key l.key) marks) ls
 abbrev pub no_marks : List ℕ
 no_marks = replicate 1000 0
 
--- A partial notice has its countries marked, another none.
-unfoldable pub marks_for : Kind → List Line → List ℕ
-marks_for Partial ls = marks_of no_marks ls
-marks_for Full ls = no_marks
-marks_for Update ls = no_marks
-marks_for (Replacement country) ls = no_marks
+-- A partial notice has its countries marked, another none, and none is marked with no kind.
+unfoldable pub marks_for : Option Kind → List Line → List ℕ
+marks_for None ls = no_marks
+marks_for (Some Partial) ls = marks_of no_marks ls
+marks_for (Some Full) ls = no_marks
+marks_for (Some Update) ls = no_marks
+marks_for (Some (Replacement country)) ls = no_marks
 
 -- lines of 447, 7, a code with no country, and 999
 lines : List Line
@@ -35,10 +36,10 @@ lines = line_of (key (4 ∷ 4 ∷ 7 ∷ [])) Closed 0 ∷ line_of (key (7 ∷ []
 seen : List ℕ → List ℕ
 seen marks = get_or marks 7 0 ∷ get_or marks 44 0 ∷ get_or marks 447 0 ∷ get_or marks 999 0 ∷ []
 
--- a partial notice marks its countries; another kind marks none
+-- a partial notice marks its countries; another kind marks none, and with no kind none is marked
 marks :
-    seen (marks_for Partial lines) ∷ seen (marks_for Partial []) ∷ seen (marks_for Full lines) ∷ []
-    ≡ (1 ∷ 1 ∷ 0 ∷ 1 ∷ []) ∷ (0 ∷ 0 ∷ 0 ∷ 0 ∷ []) ∷ (0 ∷ 0 ∷ 0 ∷ 0 ∷ []) ∷ []
+    seen (marks_for (Some Partial) lines) ∷ seen (marks_for (Some Partial) []) ∷ seen (marks_for (Some Full) lines) ∷ seen (marks_for None lines) ∷ []
+    ≡ (1 ∷ 1 ∷ 0 ∷ 1 ∷ []) ∷ (0 ∷ 0 ∷ 0 ∷ 0 ∷ []) ∷ (0 ∷ 0 ∷ 0 ∷ 0 ∷ []) ∷ (0 ∷ 0 ∷ 0 ∷ 0 ∷ []) ∷ []
 unfolding marks_for marks_of country_of_key key lines seen
 marks = refl
 
@@ -47,6 +48,6 @@ total [] = 0
 total (n ∷ ns) = n + total ns
 
 -- as many marks as there are values, of which a partial notice sets one for each of its three countries, however often it names them
-sums : length (marks_for Partial lines) ∷ total (marks_for Partial (lines ++ lines)) ∷ [] ≡ 1000 ∷ 3 ∷ []
+sums : length (marks_for (Some Partial) lines) ∷ total (marks_for (Some Partial) (lines ++ lines)) ∷ [] ≡ 1000 ∷ 3 ∷ []
 unfolding marks_for marks_of country_of_key key lines total
 sums = refl

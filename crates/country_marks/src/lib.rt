@@ -3,12 +3,11 @@
 
 ghost use Rattle.std.specs.Prelude.{◌≡◌};
 ghost use Rattle.country_code.specs.CountryCode.{country_of_key};
-ghost use Rattle.notice.specs.Lines.{lines_at};
 ghost use Rattle.country_marks.specs.Marks.{marked, marks_of, marks_for};
 
 use country_code::{Marks, VALUES_END};
 use notice::Lines;
-use notice_header::{Header, Kind};
+use notice_header::Kind;
 
 // Marks the country of a key. The test is by hand: after a write through `get_mut` a proof does not know the marks.
 #[tactic(auto, using(crate::proofs::Marking::marks_past))]
@@ -32,14 +31,14 @@ fn mark_lines(lines: Lines, marks: &mut Marks)
     }
 }
 
-// For a partial notice the countries named are first noted in the marks; for another notice none. They are lent, since a copy of an
-// answer would want `memcpy`, which a host may not have.
+// For a partial notice the countries named are first noted in the marks; for another notice, or with no kind, none. They are lent,
+// since a copy of an answer would want `memcpy`, which a host may not have.
 #[tactic(auto, unfolding(crate::specs::Marks::marks_for))]
-pub fn mark_countries(notice: &[u8], header: Header, marks: &mut Marks)
-    ensures { marks.new ≡ marks_for header.kind (lines_at header.lines notice.now header.start) }
+pub fn mark_countries(kind: Option<Kind>, lines: Lines, marks: &mut Marks)
+    ensures { marks.new ≡ marks_for kind lines.entry }
 {
     marks.fill(0);
-    if header.kind == Kind::Partial {
-        mark_lines(Lines::of(notice, header.start, header.lines), marks);
+    if kind == Some(Kind::Partial) {
+        mark_lines(lines, marks);
     }
 }

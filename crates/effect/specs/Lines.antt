@@ -1,6 +1,6 @@
 -- A line's change of its code by the plan of its notice, against what a search of the book before finds. In a sound book these are
 -- the effective days of document 01 ("Effective days"; update/proofs/PlanLaws.antt).
-use Rattle.std.specs.Prelude.{◌≡◌, refl, Bool, true, false, cond, ◌||◌, List, [], ◌∷◌, ℕ, max}
+use Rattle.std.specs.Prelude.{◌≡◌, refl, Bool, true, false, cond, ◌||◌, List, [], ◌∷◌, ℕ, max, Some}
 use Rattle.rate.specs.Price.{rate}
 use Rattle.rate.specs.OfferWord.{word_of}
 use Rattle.rate.specs.declared.Offer.{Offer}
@@ -50,7 +50,7 @@ latest_by p found latest (l ∷ ls) = latest_by p found (max latest (effective_b
 
 -- an update received on day 100 with the floor on day 107
 plan : Bool → Plan
-plan noticed = record { kind = Update; received = 100; floor = 107; noticed = noticed; closing = 107 }
+plan noticed = record { kind = Some Update; received = 100; floor = 107; noticed = noticed; closing = 107 }
 
 line : Offer → ℕ → Line
 line offer listed = line_of 5 offer listed

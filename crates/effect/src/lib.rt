@@ -9,10 +9,11 @@ use notice_header::Kind;
 use notice_line::Line;
 use rate::Offer;
 
-// `noticed` where every line waits for the floor; `closing` is the day on which unlisted codes close.
+// `kind` is none for a number that is no kind's; `noticed` where every line waits for the floor; `closing` is the day on which
+// unlisted codes close.
 #[derive(Clone, Copy)]
 pub struct Plan {
-    pub kind: Kind,
+    pub kind: Option<Kind>,
     pub received: u64,
     pub floor: u64,
     pub noticed: bool,

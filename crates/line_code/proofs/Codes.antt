@@ -1,22 +1,27 @@
 -- The value field of a code, by the key of the allowed code that it is. Assumes nothing.
-use Rattle.std.proofs.Common.{◌≡◌, refl, ap, sym, ◌∙◌, Bool, true, false, cond, ltb, ℕ, ◌^◌, ◌≤◌, Option, Ok, Err, arith}
-use Rattle.std.proofs.lemmas.Bool.{le-leb}
+use Rattle.std.proofs.Common.{◌≡◌, refl, ap, sym, ◌∙◌, Bool, true, false, cond, ltb, List, ℕ, ◌^◌, ◌≤◌, length, Option, Ok, Err, arith}
+use Rattle.std.proofs.lemmas.Bool.{le-leb, eq-eqb}
 use Rattle.std.proofs.lemmas.Bool.Decides.{nat_tests}
-use Rattle.dial_code.specs.Digits.{digits, is_written}
+use Rattle.dial_code.specs.Digits.{every, is_digit, digits, is_written}
 use Rattle.dial_code.specs.Key.{key, code_key}
 use Rattle.country_code.specs.CountryCode.{country, country_of_key}
 use Rattle.allowed_code.specs.Code.{is_code, is_code_key, sent_code_key}
 use Rattle.dial_code.proofs.DigitLaws.{length_digits, digits_are}
+use Rattle.dial_code.proofs.KeyLaws.{digits_back}
 use Rattle.country_code.proofs.CountryLaws.{country_of_key_law}
-use Rattle.allowed_code.proofs.CodeLaws.{key_test}
+use Rattle.allowed_code.proofs.CodeLaws.{code_test, key_test as word_test}
 use Rattle.allowed_code.proofs.SentCodes.{sent_test, by_key}
 use Rattle.line_code.specs.CodeRule.{lies_in, code_field}
 use Rattle.refusal.specs.declared.Refusal.TheVariants.{CodeNotAllowed, KeysNotRising, OutOfRange, OutsideCountry}
 use Rattle.refusal.specs.Steps.{◌>>=◌, Read, ok_at}
 
+-- A digit string is an allowed code exactly where its key is the key of one.
+pub key_test : (ds : List ℕ) → every is_digit ds ≡ true → length ds ≤ 15 → is_code_key (key ds) ≡ is_code ds
+key_test ds e h = code_test (key ds) ∙ rw (digits_back ds e h, eq-eqb (key ds) (key ds) refl)
+
 -- The key of an allowed code is sent.
 pub key_sent : (count v k : ℕ) → code_key count v ≡ Ok k → is_code_key k ≡ true → sent_code_key count v ≡ Ok k
-key_sent count v k e a = let t = key_test k in by_key count v ∙ rw e (grind (arith, nat_tests))
+key_sent count v k e a = let t = word_test k in by_key count v ∙ rw e (grind (arith, nat_tests))
 
 module _ (count v : ℕ) (h : 1 ≤ count) (l : count ≤ 15) where
   -- The country of the digits, by their key.

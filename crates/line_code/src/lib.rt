@@ -3,11 +3,19 @@
 
 ghost use Rattle.std.specs.Prelude.{◌≡◌, ◌≤◌};
 ghost use Rattle.dial_code.specs.Digits.{most_digits};
-ghost use Rattle.line_code.specs.CodeRule.{code_field, read_code};
+ghost use Rattle.country_code.specs.CountryCode.{country_of_key};
+ghost use Rattle.line_code.specs.CodeRule.{is_country, code_field, read_code};
 
-use country_code::country_of_key;
 use dial_code::Code;
 use refusal::{Read, Refusal};
+
+// Whether a key lies in the country of a country code's value.
+#[tactic(auto, unfolding(crate::specs::CodeRule::is_country))]
+pub fn lies_in(key: u64, value: u64) -> bool
+    ensures { result ≡ is_country (country_of_key key) value }
+{
+    country_code::country_of_key(key).is_some_and(|country| country == value)
+}
 
 // A code's value field, against the key of the line before and the country that a replacement names. `before` is 0 at the first
 // line: an `Option` would be no plainer, since 0 lies below every key, so that the one test serves.
@@ -20,7 +28,7 @@ fn code_field(named: Option<u64>, before: u64, code: Code, end: usize) -> Read<u
     if key <= before {
         return Err(Refusal::KeysNotRising);
     }
-    if named.is_some() && country_of_key(key) != named {
+    if named.is_some_and(|country| !lies_in(key, country)) {
         return Err(Refusal::OutsideCountry);
     }
     Ok((key, end))

@@ -2,3 +2,4 @@
 pub mod LineLayoutLaws
 pub mod LineBack
 pub mod Encodable
+pub mod LineSizes

@@ -4,6 +4,8 @@ use mathlib.Core.List.{List, [], ◌∷◌, ◌++◌, append_assoc}
 use Prim.Native.Nat.{ℕ}
 use Rattle.varint_encoding.specs.Several.{encode_all}
 use Rattle.dial_code.specs.Key.{code_of}
+use Rattle.dial_code.specs.declared.Code.{Code}
+use Rattle.rate.specs.declared.Offer.{Offer}
 use Rattle.line_writing.specs.LineLayout.{offer_fields, line_fields}
 use Rattle.line_writing.specs.LineLayout.{encode_line, encode_lines}
 use Rattle.notice_line.specs.declared.Line.{Line}
@@ -34,3 +36,11 @@ lines_append (l ∷ ls) ms =
     ∙ ap (λ (t : List ℕ). encode_line l ++ t) (lines_append ls ms)
     ∙ sym (append_assoc (encode_line l) (encode_lines ls) (encode_lines ms))
     ∙ ap (λ (t : List ℕ). t ++ encode_lines ms) (sym (lines_cons l ls))
+
+-- A line's fields from the code and the offer that are in hand.
+pub line_sends : (l : Line) (r : Code) (o : Offer) → r ≡ code_of l.key → l.offer ≡ o
+    → r.count ∷ r.value ∷ offer_fields o ++ (l.listed ∷ []) ≡ line_fields l
+line_sends l r o e f =
+    ap (λ (c : Code). c.count ∷ c.value ∷ offer_fields o ++ (l.listed ∷ [])) e
+    ∙ ap (λ (p : Offer). (code_of l.key).count ∷ (code_of l.key).value ∷ offer_fields p ++ (l.listed ∷ [])) (sym f)
+    ∙ sym (line_opens l)

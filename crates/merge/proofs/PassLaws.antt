@@ -4,7 +4,7 @@ use mathlib.Core.Bool.{Bool, true, false, cond, ◌||◌}
 use mathlib.Core.List.{List, [], ◌∷◌, ◌++◌, append-nil}
 use Prim.Native.Nat.{ℕ, ◌+◌, ◌≤◌, ◌<◌}
 use native.Mathlib.Omega.{arith}
-use borrow.Author.Tests.{lt-ltb, eq-eqb, ne_eqb}
+use borrow.Author.Tests.{lt-ltb, le-ltb, eq-eqb, ne_eqb}
 use lib.Dec.{eqb, ltb}
 use lib.ListN.{length, length-append}
 use Rattle.book_words.specs.Layout.{entry}
@@ -24,7 +24,7 @@ module _ (day : ℕ) (e : Entry) (fs : List Entry) where
       go true false = omega arith
       go false u = omega arith
 
--- The entries below a key, where the next is one of them.
+-- The entries below a key, where the next is one of them, is not, or is none.
 module _ (k : ℕ) (closes : ℕ → Bool) (day : ℕ) where
   module _ {es : List Entry} (e : Entry) (fs : List Entry) (q : es ≡ e ∷ fs) where
     pub gap_on :
@@ -34,6 +34,14 @@ module _ (k : ℕ) (closes : ℕ → Bool) (day : ℕ) where
         → gap_below k closes day es ≡ unlisted_as closed day e fs ++ gap_below k closes day fs
     unfolding gap_below
     gap_on h c = rw (q, c, lt-ltb _ _ h)
+
+    pub gap_stops : k ≤ e.key → gap_below k closes day es ≡ []
+    unfolding gap_below
+    gap_stops h = rw (q, le-ltb _ _ h)
+
+  pub gap_none : {es : List Entry} → es ≡ [] → gap_below k closes day es ≡ []
+  unfolding gap_below
+  gap_none q = rw q
 
 module _ (k : ℕ) where
   module _ {es : List Entry} (e : Entry) (fs : List Entry) (q : es ≡ e ∷ fs) where

@@ -1,5 +1,5 @@
 -- The merge as a whole, for any words and bytes: what it answers, and the words that it leaves.
-use Rattle.std.specs.Prelude.{◌≡◌, refl, false, List, [], ◌∷◌, ◌++◌, ℕ, ◌+◌, ◌*◌, min, length, replicate}
+use Rattle.std.specs.Prelude.{◌≡◌, refl, false, List, [], ◌∷◌, ◌++◌, ℕ, ◌+◌, ◌*◌, min, length, replicate, Some}
 use Rattle.varint.specs.Reading.{read_number}
 use Rattle.varint.specs.Ranged.{read_ranged}
 use Rattle.dial_code.specs.Key.{key, keys_end}
@@ -57,7 +57,7 @@ before = book_of (header_words + 2 * entry_words) 7 90 90 (entry (key (4 ∷ 4 �
 
 -- a notice received on day 100 with the floor on day 107
 plan : Kind → Plan
-plan kind = record { kind = kind; received = 100; floor = 107; noticed = false; closing = 107 }
+plan kind = record { kind = Some kind; received = 100; floor = 107; noticed = false; closing = 107 }
 
 -- 44 deleted, as a line of a notice behind a byte; another byte after it
 bytes : List ℕ

@@ -104,7 +104,7 @@ fn pass_unlisted<'a>(from: Place<'a>, below: u64, closings: &Closings, new: &mut
         if below <= e.key {
             return Place { rest, count };
         }
-        if !alike.keys.contains(&e.key) {
+        if !country_code::is_within(alike.keys, e.key) {
             alike = closings.closed_range(e.key);
         }
         rest.next();

@@ -68,9 +68,12 @@ kind_told number s at h =
     (λ t.
     either F (eqb number 3) _ _ (λ t. here (λ c e. cc))
     (λ t.
+    either F (eqb number 4) _ _
+    (λ t.
     then_read (Country s at) P (read_country s at) _ (country_told s at)
     (λ n end e p.
-    record { moves = omega (arith, p.moves); stays = p.stays; named = λ c q. let same : n ≡ c = cc in omega (arith, p.some) }))))
+    record { moves = omega (arith, p.moves); stays = p.stays; named = λ c q. let same : n ≡ c = cc in omega (arith, p.some) }))
+    (λ t. omega arith))))
   where
     P : Kind × ℕ → Type 0
     P r = Kinded s at r.0 r.1

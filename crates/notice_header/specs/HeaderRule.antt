@@ -52,11 +52,32 @@ read_replacement s at = do
   (country, at) ← read_country s at
   ok_at (Replacement country) at
 
--- The kind of a number from 1 to 4, at the fields after the received day: only a replacement has the fields of a country.
+-- The kind of a number, at the fields after the received day: only a replacement has the fields of a country, and a number that is
+-- not 1 to 4 is no kind's (3).
 unfoldable pub read_kind : ℕ → List ℕ → ℕ → Read Kind
 read_kind number s at =
     cond (eqb number 1) (ok_at Full at)
-    (cond (eqb number 2) (ok_at Partial at) (cond (eqb number 3) (ok_at Update at) (read_replacement s at)))
+    (cond (eqb number 2) (ok_at Partial at)
+    (cond (eqb number 3) (ok_at Update at) (cond (eqb number 4) (read_replacement s at) (Err UnknownKind))))
+
+-- each kind, a replacement of 44, and the same bytes with numbers 0 and 5, which are no kind's
+kinds :
+    read_kind 1 (2 ∷ 44 ∷ []) 0
+    ∷ read_kind 2 (2 ∷ 44 ∷ []) 0
+    ∷ read_kind 3 (2 ∷ 44 ∷ []) 0
+    ∷ read_kind 4 (2 ∷ 44 ∷ []) 0
+    ∷ read_kind 0 (2 ∷ 44 ∷ []) 0
+    ∷ read_kind 5 (2 ∷ 44 ∷ []) 0
+    ∷ []
+    ≡ ok_at Full 0
+    ∷ ok_at Partial 0
+    ∷ ok_at Update 0
+    ∷ ok_at (Replacement 44) 2
+    ∷ Err UnknownKind
+    ∷ Err UnknownKind
+    ∷ []
+unfolding read_kind read_country is_country_code read_ranged read_number digits is_code country
+kinds = refl
 
 abbrev pub header_of : Kind → ℕ → ℕ → ℕ → Header
 header_of kind received lines start = record { kind = kind; received = received; lines = lines; start = start }

@@ -67,7 +67,7 @@ pub struct Header {
 }
 
 // The country that a replacement names: its digit count, then its value, exactly a country code.
-#[tactic(auto, using(crate::proofs::Countries::read_steps))]
+#[tactic(auto, using(crate::proofs::Countries::read_steps, varint::proofs::Ranges::held_is))]
 fn read_country(reader: &mut Reader<'_>) -> Result<u64, Refusal>
     ensures country { placed result reader.new.at ≡ read_country reader.old.src.now reader.old.at }
     ensures bytes { reader.new.src ≡ reader.old.src }
@@ -81,8 +81,8 @@ fn read_country(reader: &mut Reader<'_>) -> Result<u64, Refusal>
     Ok(value)
 }
 
-// The kind of a number from 1 to 4, as it is sent: only a replacement has fields of its own, which come after the received day, so
-// that no `Kind` can be made before.
+// The kind of a number, as it is sent: only a replacement has fields of its own, which come after the received day, so that no
+// `Kind` can be made before. Any other number is no kind's.
 #[tactic(auto, unfolding(crate::specs::HeaderRule::read_kind))]
 fn read_kind(number: u64, reader: &mut Reader<'_>) -> Result<Kind, Refusal>
     ensures kind { placed result reader.new.at ≡ read_kind number reader.old.src.now reader.old.at }
@@ -92,12 +92,13 @@ fn read_kind(number: u64, reader: &mut Reader<'_>) -> Result<Kind, Refusal>
         FULL => Kind::Full,
         PARTIAL => Kind::Partial,
         UPDATE => Kind::Update,
-        _ => Kind::Replacement(read_country(reader)?),
+        REPLACEMENT => Kind::Replacement(read_country(reader)?),
+        _ => return Err(Refusal::UnknownKind),
     })
 }
 
 // The fields before the lines.
-#[tactic(auto, unfolding(crate::specs::HeaderRule::read_header, crate::specs::HeaderRule::read_dated, varint::specs::Ranged::read_ranged))]
+#[tactic(auto, unfolding(crate::specs::HeaderRule::read_header, crate::specs::HeaderRule::read_dated, varint::specs::Ranged::read_ranged), using(varint::proofs::Ranges::held_is))]
 pub fn leading_fields(notice: &[u8]) -> Result<Header, Refusal>
     ensures { result ≡ read_header notice.now }
 {

@@ -22,7 +22,7 @@ use Rattle.line_writing.specs.LineLayout.{encode_line, encode_lines}
 use Rattle.notice_line.specs.declared.Line.{Line}
 use Rattle.varint.proofs.Links.{on_value, yes_case}
 use Rattle.line_writing.proofs.LineLayoutLaws.{lines_nil, lines_cons}
-use Rattle.notice_writing.proofs.LayoutLaws.{header_bytes, notice_bytes, after_received, fields_open}
+use Rattle.notice_writing.proofs.LayoutLaws.{header_bytes, notice_bytes, after_kind, kind_opens}
 use Rattle.notice_writing.proofs.CountryCodes.{CountryValue, country_value}
 use Rattle.line_writing.proofs.LineBack.{Past, number_back, number_past, ranged_back, past_on, line_back}
 use Rattle.notice.proofs.LinesLaws.{with_first, ValidFrom, lines_open}
@@ -81,8 +81,8 @@ record KindBack (kind : Kind) (s : List ℕ) (at : ℕ) (ms ns post : List ℕ) 
   past : Past s at end ms ns post
 
 kind_back : (kind : Kind) (count : ℕ) (s : List ℕ) (at : ℕ) (post : List ℕ) → ((c : ℕ) → kind ≡ Replacement c → CountryValue c)
-    → drop at s ≡ encode_all (after_received kind count) ++ post
-    → KindBack kind s at (after_received kind count) (count ∷ []) post
+    → drop at s ≡ encode_all (after_kind kind count) ++ post
+    → KindBack kind s at (after_kind kind count) (count ∷ []) post
 unfolding read_kind
 kind_back Full count s at post v e = record { end = at; read = refl; past = record { stands = e; ends = refl } }
 kind_back Partial count s at post v e = record { end = at; read = refl; past = record { stands = e; ends = refl } }
@@ -102,8 +102,8 @@ module _ (kind : Kind) (received count : ℕ) where
   abbrev pub header_sent : List ℕ
   header_sent = encode_header (kind_number kind) received (country_sent kind) count
 
-  pub bytes_open : header_sent ≡ encode_all (kind_number kind ∷ received ∷ after_received kind count)
-  bytes_open = header_bytes (kind_number kind) received (country_sent kind) count ∙ ap encode_all (fields_open kind received count)
+  pub bytes_open : header_sent ≡ encode_all (kind_number kind ∷ received ∷ after_kind kind count)
+  bytes_open = header_bytes (kind_number kind) received (country_sent kind) count ∙ ap encode_all (kind_opens kind received count)
 
   -- The fields before the lines read back, with any bytes behind them.
   pub header_back : (post : List ℕ) → Leads kind received count
@@ -112,7 +112,7 @@ module _ (kind : Kind) (received count : ℕ) where
   header_back post v =
       let n : ℕ = kind_number kind in
       let s : List ℕ = header_sent ++ post in
-      let on : List ℕ = after_received kind count in
+      let on : List ℕ = after_kind kind count in
       let e : drop 0 s ≡ encode_all (n ∷ received ∷ on) ++ post = ap (λ (t : List ℕ). t ++ post) bytes_open in
       let r = kind_range kind in
       let x : n < 2 ^ 63 = omega (arith, r.1) in

@@ -14,7 +14,7 @@ use Rattle.notice_header.specs.declared.Kind.{Kind}
 use Rattle.notice_header.specs.declared.Kind.TheVariants.{Full, Partial, Update, Replacement}
 use Rattle.notice_writing.specs.Layout.{country_count, country_sent, header_fields}
 use Rattle.line_writing.proofs.Encodable.{one_more}
-use Rattle.notice_writing.proofs.LayoutLaws.{header_bytes, after_received, fields_open}
+use Rattle.notice_writing.proofs.LayoutLaws.{header_bytes, after_kind, kind_opens}
 use Rattle.notice_writing.proofs.CountryCodes.{CountryValue}
 use Rattle.notice_writing.proofs.NoticeBack.{Leads, count_range, kind_range, header_sent}
 use Rattle.std.proofs.Common.{Some}
@@ -22,14 +22,14 @@ use Rattle.std.proofs.Common.{Some}
 module _ (kind : Kind) (received count : ℕ) (v : Leads kind received count) where
   pub header_encodable : encodable_all (header_fields (kind_number kind) received (country_sent kind) count) ≡ true
   header_encodable =
-      ap encodable_all (fields_open kind received count)
+      ap encodable_all (kind_opens kind received count)
       ∙ one_more (kind_number kind) _ (omega (arith, (kind_range kind).1))
       (one_more received _ (omega (arith, v.received_most)) (go kind v.named_code))
     where
       counted : encodable_all (count ∷ []) ≡ true
       counted = one_more count [] (omega (arith, v.few_lines)) all_nil
 
-      go : (k : Kind) → ((c : ℕ) → k ≡ Replacement c → CountryValue c) → encodable_all (after_received k count) ≡ true
+      go : (k : Kind) → ((c : ℕ) → k ≡ Replacement c → CountryValue c) → encodable_all (after_kind k count) ≡ true
       go Full f = counted
       go Partial f = counted
       go Update f = counted

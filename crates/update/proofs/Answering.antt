@@ -1,5 +1,5 @@
 -- What an apply answers and leaves, by the tests of the code. Assumes nothing.
-use mathlib.Core.Path.{◌≡◌, ap, sym, ◌∙◌}
+use mathlib.Core.Path.{◌≡◌, refl, ap, sym, ◌∙◌}
 use mathlib.Core.Bool.{Bool, true, false}
 use mathlib.Core.List.{List}
 use Prim.Native.Nat.{ℕ, ◌+◌, ◌*◌, ◌≤◌, ◌<◌}
@@ -30,8 +30,8 @@ use Rattle.notice.specs.Lines.{lines_at}
 use Rattle.merge.specs.Merge.{merged_by}
 use Rattle.notice.proofs.LinesAgain.{lines_again}
 use Rattle.update.proofs.NewEntries.{new_facts}
-use Rattle.refusal.specs.declared.Refusal.TheVariants.{BookFull, ReceivedEarlier}
-use Rattle.std.proofs.Common.{None, Result, Ok, Err}
+use Rattle.refusal.specs.declared.Refusal.TheVariants.{BookFull, BookTooShort, ReceivedEarlier}
+use Rattle.std.proofs.Common.{Some, None, Result, Ok, Err}
 use Rattle.refusal.specs.declared.Refusal.{Refusal}
 
 -- A refused apply answers its refusal, and leaves every word as it was.
@@ -40,7 +40,21 @@ pub refuses : (ws s new : List ℕ) (e : Refusal) {r : Result Applied Refusal} �
 unfolding apply_answer applied
 refuses ws s new e q f = (q ∙ rw f, rw f)
 
--- A notice that the check refuses, with its refusal.
+-- The refusals that come before the notice is judged.
+pub no_old : (ws s : List ℕ) (len : ℕ) {e : Refusal} → check_book ws ≡ Err e → apply_notice ws s len ≡ Err e
+unfolding apply_notice
+no_old ws s len b = rw b
+
+module _ (ws s : List ℕ) (len : ℕ) (b : check_book ws ≡ Ok tt) where
+  pub no_new : len < header_words → apply_notice ws s len ≡ Err BookTooShort
+  unfolding apply_notice
+  no_new h = rw (b, lt-ltb len header_words h)
+
+  pub no_notice : header_words ≤ len → {e : Refusal} → read_notice s ≡ Err e → apply_notice ws s len ≡ Err e
+  unfolding apply_notice
+  no_notice h r = rw (b, le-ltb len header_words h, r)
+
+-- A notice that the check refuses, with its refusal; it leaves every word as it was.
 pub refuses_notice :
     (ws s : List ℕ) (len : ℕ) (e : Refusal)
     → check_book ws ≡ Ok tt
@@ -49,6 +63,14 @@ pub refuses_notice :
     → apply_answer ws s len ≡ Err e
 unfolding apply_answer apply_notice
 refuses_notice ws s len e b h k = rw (b, le-ltb len header_words h, check_refused s e k)
+
+pub refuses_leaves :
+    (ws s new : List ℕ) (e : Refusal)
+    → check_book ws ≡ Ok tt
+    → header_words ≤ length new
+    → check_notice s ≡ Err e
+    → new ≡ applied ws s new
+refuses_leaves ws s new e b h k = (refuses ws s new e refl (no_notice ws s (length new) b h (check_refused s e k))).1
 
 -- A notice that is read, against a book that can be used.
 judged :
@@ -94,7 +116,7 @@ module _
 
   module _
       (l : received_of ws ≤ m.header.received) {p : Plan} (a : p ≡ plan_of m (period_of ws) (latest_of ws))
-      {marks : List ℕ} (b : marks ≡ marks_for m.header.kind (lines_at m.header.lines s m.header.start)) where
+      {marks : List ℕ} (b : marks ≡ marks_for (Some m.header.kind) (lines_at m.header.lines s m.header.start)) where
     -- the merge's entries and latest day are those of the rules
     pub merges : merged_by ws p marks (lines_at m.header.lines s m.header.start) ≡ new_entries ws (ready s m k).passed.sent
     merges =

@@ -110,25 +110,25 @@ pub closes_is :
     (m : Summary) (n : Notice)
     → Summed m n
     → (period latest k : ℕ)
-    → closes_by (plan_of m period latest) (marks_for m.header.kind n.lines) k ≡ closes n k
+    → closes_by (plan_of m period latest) (marks_for (Some m.header.kind) n.lines) k ≡ closes n k
 unfolding closes_by closes plan_of marks_for
 closes_is m n s period latest k = rw (← s.kind) (go n.kind)
   where
     by_marks :
         (x : Option ℕ)
         → country_of_key k ≡ x
-        → closes_in Partial (marks_of no_marks n.lines) x ≡ named_by n.lines k
+        → closes_in (Some Partial) (marks_of no_marks n.lines) x ≡ named_by n.lines k
     by_marks (Some c) e =
         marks_name c k n.lines no_marks (country_below k c e) (length-replicate {A = ℕ} 1000 0) e
         ∙ ap (λ (t : Bool). named_by n.lines k || t) (none_marked c (country_below k c e))
         ∙ or-false (named_by n.lines k)
     by_marks None e = sym (none_named k n.lines e)
 
-    by_country : (named : ℕ) (x : Option ℕ) → closes_in (Replacement named) no_marks x ≡ in_country named x
+    by_country : (named : ℕ) (x : Option ℕ) → closes_in (Some (Replacement named)) no_marks x ≡ in_country named x
     by_country named (Some c) = refl
     by_country named None = refl
 
-    go : (kind : Kind) → closes_in kind (marks_for kind n.lines) (country_of_key k) ≡ closes_as kind n.lines k
+    go : (kind : Kind) → closes_in (Some kind) (marks_for (Some kind) n.lines) (country_of_key k) ≡ closes_as kind n.lines k
     go Full = refl
     go Partial = by_marks (country_of_key k) refl
     go Update = refl

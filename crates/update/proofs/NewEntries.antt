@@ -150,7 +150,7 @@ module _ (ws : List ℕ) (m : Summary) (n : Notice) (h : sound ws ≡ true) (v :
   plan = plan_of m (period_of ws) (latest_of ws)
 
   abbrev marks : List ℕ
-  marks = marks_for m.header.kind n.lines
+  marks = marks_for (Some m.header.kind) n.lines
 
   late : latest_of ws ≤ last_day
   late = (sound_book ws h).header.latest_most
@@ -224,7 +224,7 @@ pub new_facts :
     (ws s : List ℕ) (m : Summary)
     → sound ws ≡ true
     → (p : checking.Passed s m)
-    → (merged_by ws (plan_of m (period_of ws) (latest_of ws)) (marks_for m.header.kind p.sent.lines) p.sent.lines ≡ new_entries ws p.sent)
+    → (merged_by ws (plan_of m (period_of ws) (latest_of ws)) (marks_for (Some m.header.kind) p.sent.lines) p.sent.lines ≡ new_entries ws p.sent)
     × (latest_by (plan_of m (period_of ws) (latest_of ws)) (found_in ws) (latest_of ws) p.sent.lines ≡ (after_book ws p.sent).latest)
 new_facts ws s m h p =
     let n = p.sent in

@@ -1,5 +1,5 @@
 -- The plan of a notice, worked once from its summary.
-use Rattle.std.specs.Prelude.{cond, ◌||◌, ℕ, ◌+◌, max, ltb}
+use Rattle.std.specs.Prelude.{cond, ◌||◌, ℕ, ◌+◌, max, ltb, Some}
 use Rattle.history.specs.Effect.{is_replacement}
 use Rattle.notice.specs.declared.Summary.{Summary}
 use Rattle.effect.specs.declared.Plan.{Plan}
@@ -12,7 +12,7 @@ earliest_wanted m = max m.header.received m.earliest
 unfoldable pub plan_of : Summary → ℕ → ℕ → Plan
 plan_of m period latest =
     record {
-      kind = m.header.kind;
+      kind = Some m.header.kind;
       received = m.header.received;
       floor = m.header.received + period;
       noticed = is_replacement m.header.kind || ltb (earliest_wanted m) latest;

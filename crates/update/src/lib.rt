@@ -18,7 +18,7 @@ use closing::Closings;
 use effect::Plan;
 use history::Applied;
 use merge::Merged;
-use notice::Summary;
+use notice::{Lines, Summary};
 use notice_header::Kind;
 use refusal::Refusal;
 use std::marker::Model;
@@ -55,7 +55,11 @@ fn apply_checked<'a>(
     }
     // In the form that document 01 names, of the type `Marks`, which holds it to the length.
     let mut marks: country_code::Marks = [0; 1000];
-    country_marks::mark_countries(notice, m.header, &mut marks);
+    country_marks::mark_countries(
+        Some(m.header.kind),
+        Lines::of(notice, m.header.start, m.header.lines),
+        &mut marks,
+    );
     let closings = Closings {
         plan: plan_of(m, header.period, header.latest),
         marks: &marks,
@@ -87,7 +91,7 @@ fn plan_of(m: Summary, period: u64, latest: u64) -> Plan
     let wanted = m.header.received.max(m.earliest);
     let replaces = matches!(m.header.kind, Kind::Replacement(_));
     Plan {
-        kind: m.header.kind,
+        kind: Some(m.header.kind),
         received: m.header.received,
         floor,
         noticed: replaces || wanted < latest,

@@ -4,7 +4,7 @@
 
 ghost use Rattle.std.specs.Prelude.{◌≡◌};
 ghost use Rattle.varint.specs.Reading.{read_number};
-ghost use Rattle.varint.specs.Ranged.{in_range, read_ranged};
+ghost use Rattle.varint.specs.Ranged.{HeldIn, read_ranged};
 
 use refusal::{Read, Refusal};
 
@@ -51,19 +51,24 @@ pub fn read_field(s: &[u8], at: usize) -> Read<u64>
     }
 }
 
-// A number from least to most, else 4. As one `RangeInclusive` they would be no plainer: one that has been walked is over.
-pub fn in_range(read: Read<u64>, least: u64, most: u64) -> Read<u64>
-    ensures { result ≡ in_range read least most }
+// A number from least to most, else 4, as an error of the kind that the reading has; an error is handed on. As one `RangeInclusive`
+// least and most would be no plainer: one that has been walked is over.
+pub fn in_range<E: From<Refusal>>(
+    read: Result<(u64, usize), E>,
+    least: u64,
+    most: u64,
+) -> Result<(u64, usize), E>
+    ensures { HeldIn E.from_gives read least most result }
 {
     let (n, next) = read?;
     if n < least || most < n {
-        return Err(Refusal::OutOfRange);
+        return Err(E::from(Refusal::OutOfRange));
     }
     Ok((n, next))
 }
 
 // The number at a position, from least to most: 1, 2, then 4.
-#[tactic(auto, unfolding(crate::specs::Ranged::read_ranged))]
+#[tactic(auto, unfolding(crate::specs::Ranged::read_ranged), using(crate::proofs::Ranges::held_is))]
 pub fn read_ranged(s: &[u8], at: usize, least: u64, most: u64) -> Read<u64>
     ensures { result ≡ read_ranged s.now at least most }
 {

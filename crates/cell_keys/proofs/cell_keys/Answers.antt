@@ -1,8 +1,8 @@
 use Rattle.std.proofs.Common.{◌≡◌, ◌≤◌, ap, sym, ◌∙◌, length, [], Ok, rules}
 use Rattle.code_cell.specs.Cell.{entry_names, cell_keys, checked}
-use Rattle.code_cell.specs.Count.{good_ranges, outcome, all_keys}
+use Rattle.code_cell.specs.Count.{outcome, all_keys}
 use Rattle.code_cell.proofs.Refusals.{own_cell, plain_cell}
-use Rattle.code_cell.specs.Reading.{names_left}
+use Rattle.code_cell.specs.Reading.{names_left, good_ranges}
 use Rattle.std.proofs.lemmas.List.Edits.{sets}
 use Rattle.cell_keys.proofs.Backward.{from_last_fits, from_last_keys, from_first_fits, from_first_keys}
 use Rattle.cell_keys.proofs.Ones.{unchecked, good_keys}

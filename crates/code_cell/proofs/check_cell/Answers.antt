@@ -1,8 +1,8 @@
 use Rattle.std.proofs.Common.{◌≡◌, false, length, ap, sym, ◌∙◌, None}
 use borrow.Author.Tests.{leb-true, leb-false}
 use Rattle.code_cell.specs.Cell.{is_own, entries_of, entry_names, checked}
-use Rattle.code_cell.specs.Count.{good_ranges, outcome, bound_of}
-use Rattle.code_cell.specs.Reading.{ranges_left}
+use Rattle.code_cell.specs.Count.{outcome, bound_of}
+use Rattle.code_cell.specs.Reading.{good_ranges, ranges_left}
 use Rattle.code_cell.proofs.Refusals.{own_cell, cell_few, cell_many, look_few, good_writable}
 use Rattle.code_cell.proofs.Orders.{look_many}
 use Rattle.code_cell.proofs.check_cell.Goals.{After-look_over-survey, else-not-is_ordered-via-then-not-is_ordered+else-fits, else-not-is_ordered-via-else-not-is_ordered}

@@ -1,12 +1,12 @@
-use Rattle.std.proofs.Common.{◌∙◌, rules}
-use borrow.Author.Tests.{tests}
-use Rattle.std.proofs.lemmas.Iterator.{YieldsList-from_slice}
-use Rattle.std.proofs.lemmas.Iterator.Search.{all_from_yields_List}
-use Rattle.code_entry.specs.Entry.{is_blank}
-use Rattle.code_cell.proofs.Looks.{every_all}
+use Rattle.std.proofs.Common.{◌≡◌, refl, sym, ◌∙◌, arith}
+use Rattle.code_cell.proofs.Looks.{blank_next, blank_not, blank_end}
 use Rattle.code_cell.proofs.is_blank.Goals as goal
 
+pub returns-then-b-ne32 : goal.returns-then-b-ne32
+returns-then-b-ne32 c = sym (c.loop-b.invariant ∙ blank_not _ _ c.loop-b-test.true (λ z. omega arith))
+
+pub loop-b-preserved : goal.loop-b-preserved
+loop-b-preserved c = c.loop-b.invariant ∙ blank_next _ _ c.loop-b-test.true (omega arith)
+
 pub returns : goal.returns
-returns c =
-    all_from_yields_List is_blank _ _ c.all.result c.all.ensures.ran (YieldsList-from_slice c.args.cell.now (cc)) (λ x b q k. search (rules, tests))
-    ∙ every_all is_blank c.args.cell.now
+returns c = sym (c.loop-b.invariant ∙ blank_end c.args.cell.now c.loop-b.b-index (omega arith))

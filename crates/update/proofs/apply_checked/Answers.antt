@@ -5,9 +5,11 @@ use native.Mathlib.Omega.{arith}
 use Rattle.book_words.specs.Layout.{period_of, received_of, latest_of}
 use Rattle.book_words.specs.declared.Header.{Header}
 use Rattle.book.proofs.Headers.{sound_book}
+use Rattle.country_marks.specs.Marks.{marks_for}
 use Rattle.update.specs.Plans.{plan_of}
 use Rattle.update.proofs.Answering.{ready, refuses_earlier, refuses_full, fill_room, accepts}
 use Rattle.slice_laws.proofs.Clauses.{both}
+use Rattle.std.proofs.Common.{Some}
 use Rattle.update.proofs.apply_checked.Goals.{After-plan_of, Else-m-header}
 use Rattle.update.proofs.apply_checked.Goals as goal
 
@@ -42,7 +44,7 @@ pub returns-then-not-has_room : goal.returns-then-not-has_room
 returns-then-not-has_room c =
     let a = c.args in
     let p = c.requires in both (refuses_full a.old.now a.notice.now a.m a.new.now p.0 p.1 p.2 (in_time (goal.at.returns-then-not-has_room c).Else-m-header) (planned (goal.at.returns-then-not-has_room c).After-plan_of)
-    c.mark_countries.ensures c.has_room.ensures refl
+    (c.mark_countries.ensures ∙ ap (marks_for (Some a.m.header.kind)) c.of.ensures) c.has_room.ensures refl
     (c.if-not-has_room.true))
 
 pub fill-done-requires : goal.fill-done-requires
@@ -50,7 +52,7 @@ fill-done-requires c =
     let a = c.args in
     let p = c.requires in
     fill_room a.old.now a.notice.now a.m a.new.now p.0 p.1 p.2 (in_time (goal.at.fill-done-requires c).Else-m-header) (planned (goal.at.fill-done-requires c).After-plan_of)
-    c.mark_countries.ensures c.has_room.ensures
+    (c.mark_countries.ensures ∙ ap (marks_for (Some a.m.header.kind)) c.of.ensures) c.has_room.ensures
     (c.if-not-has_room.false)
 
 pub returns : goal.returns
@@ -58,5 +60,5 @@ returns c =
     let a = c.args in
     let p = c.requires in
     let f = c.fill-done.ensures in both (accepts a.old.now a.notice.now a.m a.new.now p.0 p.1 p.2 (in_time (goal.at.returns c).Else-m-header) (planned (goal.at.returns c).After-plan_of)
-    c.mark_countries.ensures c.has_room.ensures
+    (c.mark_countries.ensures ∙ ap (marks_for (Some a.m.header.kind)) c.of.ensures) c.has_room.ensures
     (c.if-not-has_room.false) f.value.0 f.value.1 f.after)
