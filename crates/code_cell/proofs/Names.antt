@@ -123,6 +123,10 @@ module _ (c s : List ℕ) where
             let f : x.now ≡ drop (n + 1) s = h.2 ∙ take_rest t 1 ∙ ap (drop 1) d ∙ drop-drop 1 n s in
             first_then (omega (arith, l, h.0)) ∙ ap (λ (u : List ℕ). Ok r ∷ entry_names c u) (sym f)
 
+-- A list with one item more is longer.
+pub longer : {X : Type 0} (x : X) {xs ys : List X} → ys ≡ x ∷ xs → length xs < length ys
+longer x e = omega (arith, ap length e)
+
 -- A cell by its last comma, if it has one.
 pub no_commas : (s : List ℕ) → EachIndex s (λ k. slice_index s k ≢ comma) → (entries_of s ≡ s ∷ []) × (entry_of s ≡ s)
 unfolding entries_of entry_of leading
